@@ -1,0 +1,6 @@
+pub mod Sequent
+pub mod Rule
+pub mod Derivation
+pub mod Premises
+pub mod Certificate
+pub mod Play

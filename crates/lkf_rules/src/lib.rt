@@ -1,0 +1,6 @@
+//! The rules of LKF, and its derivations, certificates and play.
+#![tactic(auto)]
+
+pub mod sequent;
+
+pub use sequent::Sequent;
