@@ -1,0 +1,14 @@
+use Rattle.std.proofs.Common.{arith}
+use Rattle.fpc_base.proofs.Moves.{IsPut-more, IsPut-prefix}
+use Rattle.fpc_base.proofs.transfer.put.Goals as goal
+
+pub loop-done-preserved : goal.loop-done-preserved
+loop-done-preserved g c = (
+  IsPut-more (g.S.Sink.taken c.args.sink.now) (g.S.Sink.taken c.loop-done.sink) (g.S.Sink.taken c.write.new.self) c.args.bytes.now c.loop-done.done c.in-Ok.n c.loop-done.invariant.0 c.in-Ok.ensures.within c.in-Ok.ensures.added,
+  omega (arith, c.in-Ok.ensures.ok_count),
+  omega (arith, c.in-Ok.ensures.calls, c.in-Ok.ensures.some),
+)
+
+pub returns-in-Err-clause-prefix : goal.returns-in-Err-clause-prefix
+returns-in-Err-clause-prefix g c =
+    rw c.in-Err.ensures.none_added (IsPut-prefix (g.S.Sink.taken c.args.sink.now) (g.S.Sink.taken c.loop-done.sink) c.args.bytes.now c.loop-done.done c.loop-done.invariant.0)

@@ -1,0 +1,56 @@
+-- What sources and sinks are told to do: counts of faults, bytes that move, contents of files.
+use Rattle.std.specs.Prelude.{◌≡◌, ℕ, ◌+◌, ◌^◌, ◌-◌, ◌≤◌, ◌<◌, min, List, [], ◌++◌, length, Option, Some, None}
+
+-- what is told of a file: nothing, that there is none, or its bytes
+pub data Content : Type 0 where
+  untold : Content
+  missing : Content
+  holds : (bytes : List ℕ) → Content
+
+-- the last value of a count, at which it stands still
+abbrev pub last_count : ℕ
+last_count = 2 ^ 64 - 1
+
+-- a count rose, or stands at its last value
+abbrev pub Rose : ℕ → ℕ → Type 0
+Rose before now = min (before + 1) last_count ≤ now
+
+-- the count of calls after one more
+abbrev pub next_count : ℕ → ℕ
+next_count n = min (n + 1) last_count
+
+-- the piece was taken from the front of what was left, where that is told; what isn't told stays so
+abbrev pub TakesFront : Option (List ℕ) → List ℕ → Option (List ℕ) → Type 0
+TakesFront None piece now = now ≡ None
+TakesFront (Some before) piece None = ⊥
+TakesFront (Some before) piece (Some now) = before ≡ piece ++ now
+
+-- some piece of at most so many bytes was taken from the front
+abbrev pub TakesAtMost : ℕ → Option (List ℕ) → Option (List ℕ) → Type 0
+TakesAtMost most before now = (piece : List ℕ) × (length piece ≤ most) × TakesFront before piece now
+
+-- nothing is left, where that is told
+abbrev pub IsAtEnd : Option (List ℕ) → Type 0
+IsAtEnd None = Unit {0}
+IsAtEnd (Some left) = left ≡ []
+
+-- more than so many bytes are left, where that is told
+abbrev pub HasMoreThan : ℕ → Option (List ℕ) → Type 0
+HasMoreThan limit None = Unit {0}
+HasMoreThan limit (Some left) = limit < length left
+
+-- what is left now are the bytes of the file, where its content is told
+abbrev pub IsAtStartOf : Content → Option (List ℕ) → Type 0
+IsAtStartOf untold left = Unit {0}
+IsAtStartOf missing left = ⊥
+IsAtStartOf (holds bytes) left = left ≡ Some bytes
+
+-- the piece was added to what a sink took, where that is told; what isn't told stays so
+abbrev pub Adds : Option (List ℕ) → List ℕ → Option (List ℕ) → Type 0
+Adds None piece now = now ≡ None
+Adds (Some before) piece None = ⊥
+Adds (Some before) piece (Some now) = now ≡ before ++ piece
+
+-- a piece that the bytes begin with was added
+abbrev pub AddsPrefix : Option (List ℕ) → List ℕ → Option (List ℕ) → Type 0
+AddsPrefix before bytes now = (piece : List ℕ) × ((rest : List ℕ) × (bytes ≡ piece ++ rest)) × Adds before piece now
