@@ -4,3 +4,4 @@ pub mod Sound
 pub mod Play
 pub mod Preorder
 pub mod Spelling
+pub mod Exchange

@@ -36,7 +36,7 @@ Plays-between q t (x ∷ xs) ys (plays_more {r = r'} one more) =
 pub Plays-first : (q t : List Levelled) (step : Step) (steps : List Step) → Plays q (step ∷ steps) t → (r : List Levelled) × PlaysOne q step r × Plays r steps t
 Plays-first q t step steps (plays_more {r = r} one more) = (r, one, more)
 
--- no steps play a list to itself alone
+-- no steps lead from a list to itself alone
 pub Plays-nothing : (q t : List Levelled) → Plays q [] t → q ≡ t
 Plays-nothing q t plays_none = refl
 
@@ -48,7 +48,7 @@ PlaysOne-empty step r one = elim one [ ]
 pub PlaysOne-premises : (n : ℕ) (c : Sequent) (step : Step) (ps q : List Levelled) → IsProperStep Lkf step → premises_of step n c ≡ Some ps → PlaysOne ((n, c) ∷ q) step (ps ++ q)
 PlaysOne-premises n c step ps q proper fits = plays proper fits
 
--- and it plays to those alone
+-- a step that names premises plays to these alone
 pub PlaysOne-same_premises : (n : ℕ) (c : Sequent) (step : Step) (ps q r : List Levelled) → premises_of step n c ≡ Some ps → PlaysOne ((n, c) ∷ q) step r → r ≡ ps ++ q
 PlaysOne-same_premises n c step ps q _ fits (plays {ps = ps'} proper fits') = let same : ps' ≡ ps = cc in rw same
 
@@ -72,6 +72,18 @@ pub Plays-after : (q r t : List Levelled) (xs ys : List Step) → Plays q xs r �
 Plays-after q r t xs ys h both =
     let there = Plays-between q t xs ys both in
     let e : r ≡ there.0 = Plays-same q r there.0 xs h there.1 in rw e there.2
+
+-- a sequent is not played away by no steps
+pub Plays-open : (p : Levelled) (q : List Levelled) → Plays (p ∷ q) [] [] → ⊥
+Plays-open p q h = let e = Plays-nothing (p ∷ q) [] h in cc
+
+-- nothing is played from the empty list
+pub Plays-over : (r : List Levelled) (step : Step) (rest : List Step) → Plays [] (step ∷ rest) r → ⊥
+Plays-over r step rest h = let first = Plays-first [] r step rest h in PlaysOne-empty step first.0 first.1
+
+-- nothing is played where the first step names no premises
+pub Plays-stuck : (n : ℕ) (c : Sequent) (q r : List Levelled) (step : Step) (rest : List Step) → premises_of step n c ≡ None → Plays ((n, c) ∷ q) (step ∷ rest) r → ⊥
+Plays-stuck n c q r step rest stuck h = let first = Plays-first ((n, c) ∷ q) r step rest h in PlaysOne-stuck n c step q first.0 stuck first.1
 
 -- scope is kept
 pub IsInScope-plays : (q r : List Levelled) (step : Step) → AllByRecursion IsInScope q → PlaysOne q step r → AllByRecursion IsInScope r
@@ -122,17 +134,51 @@ IsPlayedTo-out f done h = h.steps
 pub IsPlayedTo-rest : (f : Formula) (done rest : List Step) (q : List Levelled) → IsPlayedTo f done q → PlaysOut f (done ++ rest) → Plays q rest []
 IsPlayedTo-rest f done rest q h out = Plays-after (start_of f) q [] done rest h.steps out
 
--- steps that lead to a sequent do not play the goal out
-pub IsPlayedTo-open : (f : Formula) (done : List Step) (p : Levelled) (q : List Levelled) → IsPlayedTo f done (p ∷ q) → PlaysOut f done → ⊥
-IsPlayedTo-open f done p q h out = let e : p ∷ q ≡ [] = Plays-same (start_of f) (p ∷ q) [] done h.steps out in cc
+-- What steps play out is what the rest of them play from a list, in which all sequents are in scope and of LKF, and no level is above the number of steps gone.
+pub record IsLeft (f : Formula) (steps : List Step) (q : List Levelled) (rest : List Step) : Type 0 where
+  pub forth : Plays q rest [] → PlaysOut f steps
+  pub back : PlaysOut f steps → Plays q rest []
+  pub scope : AllByRecursion IsInScope q
+  pub logic : AllByRecursion (λ p. IsLkfSequent p.1) q
+  pub levels : AllByRecursion (λ p. p.0 + length rest ≤ length steps) q
 
--- no step follows those that lead to nothing
-pub IsPlayedTo-over : (f : Formula) (done rest : List Step) (step : Step) → IsPlayedTo f done [] → PlaysOut f (done ++ step ∷ rest) → ⊥
-IsPlayedTo-over f done rest step h out =
-    let more = Plays-first [] [] step rest (IsPlayedTo-rest f done (step ∷ rest) [] h out) in PlaysOne-empty step more.0 more.1
+-- all steps are left at the start
+pub IsLeft-start : (f : Formula) (steps : List Step) → IsClosed f → IsLkf f → IsLeft f steps (start_of f) steps
+IsLeft-start f steps closed lkf =
+    record { forth = λ out. out; back = λ out. out; scope = IsInScope-start_of f closed; logic = ((tt, (lkf, tt)), tt); levels = (omega arith, tt) }
 
--- a step that names no premises plays nothing out
-pub IsPlayedTo-stuck : (f : Formula) (done rest : List Step) (step : Step) (n : ℕ) (c : Sequent) (q : List Levelled) → IsPlayedTo f done ((n, c) ∷ q)
-    → premises_of step n c ≡ None → PlaysOut f (done ++ step ∷ rest) → ⊥
-IsPlayedTo-stuck f done rest step n c q h stuck out =
-    let more = Plays-first ((n, c) ∷ q) [] step rest (IsPlayedTo-rest f done (step ∷ rest) ((n, c) ∷ q) h out) in PlaysOne-stuck n c step q more.0 stuck more.1
+-- a step gone makes room for its level
+IsLeft-levels : (m : ℕ) (q r : List Levelled) (step : Step) (rest : List Step) → PlaysOne q step r → AllByRecursion (λ p. p.0 + length (step ∷ rest) ≤ m) q
+    → AllByRecursion (λ p. p.0 + length rest ≤ m) r
+IsLeft-levels m _ _ step rest (plays {n} {c} {ps = ps} {q = q} proper fits) h =
+    AllByRecursion-append (λ p. p.0 + length rest ≤ m) ps q
+    (AllByRecursion-weaker (λ p. p.0 ≤ n + 1) (λ p. p.0 + length rest ≤ m) (λ p le. let first = h.0 in omega arith) ps
+    (IsSound-premises_of step n c ps proper fits).levels)
+    (AllByRecursion-weaker (λ p. p.0 + length (step ∷ rest) ≤ m) (λ p. p.0 + length rest ≤ m) (λ p le. omega arith) q h.1)
+
+-- the steps behind one that fits are left
+pub IsLeft-step : (f : Formula) (steps : List Step) (q r : List Levelled) (step : Step) (rest : List Step) → IsLeft f steps q (step ∷ rest) → PlaysOne q step r → IsLeft f steps r rest
+IsLeft-step f steps q r step rest h one = record {
+  forth = λ out. h.forth (plays_more one out);
+  back = λ out. Plays-after q r [] (step ∷ []) rest (Plays-one q r step one) (h.back out);
+  scope = IsInScope-plays q r step h.scope one;
+  logic = IsLkfSequent-plays q r step h.logic one;
+  levels = IsLeft-levels (length steps) q r step rest one h.levels;
+}
+
+-- no steps and no sequents are left: the steps play out
+pub IsLeft-out : (f : Formula) (steps : List Step) → IsLeft f steps [] [] → PlaysOut f steps
+IsLeft-out f steps h = h.forth plays_none
+
+-- a sequent is left and no step: they do not play out
+pub IsLeft-open : (f : Formula) (steps : List Step) (p : Levelled) (q : List Levelled) → IsLeft f steps (p ∷ q) [] → PlaysOut f steps → ⊥
+IsLeft-open f steps p q h out = Plays-open p q (h.back out)
+
+-- a step is left and no sequent: they do not play out
+pub IsLeft-over : (f : Formula) (steps : List Step) (step : Step) (rest : List Step) → IsLeft f steps [] (step ∷ rest) → PlaysOut f steps → ⊥
+IsLeft-over f steps step rest h out = Plays-over [] step rest (h.back out)
+
+-- the next step names no premises: they do not play out
+pub IsLeft-stuck : (f : Formula) (steps : List Step) (n : ℕ) (c : Sequent) (q : List Levelled) (step : Step) (rest : List Step)
+    → IsLeft f steps ((n, c) ∷ q) (step ∷ rest) → premises_of step n c ≡ None → PlaysOut f steps → ⊥
+IsLeft-stuck f steps n c q step rest h stuck out = Plays-stuck n c q [] step rest stuck (h.back out)

@@ -44,6 +44,7 @@ pub record AreOneSpelling (cs ds : Certificates) (ts us : Trees) (xs ys : List S
   pub trees : ts ≡ us
   pub others : xs ≡ ys
 
+-- at one sequent and level, steps in preorder tell the certificate and the tree
 mutual
   pub IsOneSpelling-steps_before : (c d : Certificate) (t u : Tree) (n : ℕ) (xs ys : List Step) → Spells c t n → Spells d u n
       → root_sequent t ≡ root_sequent u → steps_before c xs ≡ steps_before d ys → IsOneSpelling c d t u xs ys

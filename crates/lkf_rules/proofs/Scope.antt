@@ -32,6 +32,7 @@ module _ (e f : ℕ → Type 0) (he : (n : ℕ) → e n → f n) where
 
 -- a term in the place of the outermost index
 module _ (e : ℕ → Type 0) (s : Term) (hs : IsProperTerm e s) where
+  -- an index, where the term is put in for the outermost one
   Each-chosen : (k j : ℕ) → j < suc k → (b : Bool) → nat_eq j k ≡ b → Each e (Tied k) Never (if b then s else bound j)
   Each-chosen k j h true same = Each-weaker e e Never (Tied k) Never (λ n x. x) (λ n x. absurd x) s hs
   Each-chosen k j h false other = grind (arith, nat_tests)
@@ -83,6 +84,7 @@ module _ (n : ℕ) where
     EachArg-below b (arg t ts) none h =
         let parts = or_parts (has_eigen_from n t) (any_has_eigen_from n ts) none in (Each-below b t parts.0 h.0, EachArg-below b ts parts.1 h.1)
 
+  -- the test fails of both parts
   both_below : (a b : Formula) → (has_eigen_in n a || has_eigen_in n b) ≡ false → (has_eigen_in n a ≡ false) × (has_eigen_in n b ≡ false)
   both_below a b none = or_parts (has_eigen_in n a) (has_eigen_in n b) none
 

@@ -42,8 +42,9 @@ IsProperSequent-weaker e f w (down s a) h =
 IsFresh-level : (n : ℕ) (c : Sequent) → IsInScope (n, c) → IsFresh n c
 IsFresh-level n c h = IsProperSequent-weaker (λ m. m < n) (λ m. m ≢ n) (λ m lt. omega arith) c h
 
-every-sound : (n : ℕ) (s : List Formula) (a : Formula) (g : List Formula) → IsSound n (up s (for_all a ∷ g)) ((n + 1, up s (open_at 0 (eigen n) a ∷ g)) ∷ [])
-every-sound n s a g =
+-- an instance of `every`
+IsSound-every : (n : ℕ) (s : List Formula) (a : Formula) (g : List Formula) → IsSound n (up s (for_all a ∷ g)) ((n + 1, up s (open_at 0 (eigen n) a ∷ g)) ∷ [])
+IsSound-every n s a g =
     let wider = IsProperSequent-weaker (λ m. m < n) (λ m. m < n + 1) (λ m lt. omega arith) (up s (for_all a ∷ g)) in
     record {
       rule = λ h. every s g a n (IsFresh-level n (up s (for_all a ∷ g)) h);
@@ -52,56 +53,62 @@ every-sound n s a g =
       levels = (omega arith, tt);
     }
 
-store-sound : (n : ℕ) (s : List Formula) (f : Formula) (g : List Formula) → is_storable f ≡ true → IsSound n (up s (f ∷ g)) ((n, up (s ++ f ∷ []) g) ∷ [])
-store-sound n s f g e = record {
+-- an instance of `store`
+IsSound-store : (n : ℕ) (s : List Formula) (f : Formula) (g : List Formula) → is_storable f ≡ true → IsSound n (up s (f ∷ g)) ((n, up (s ++ f ∷ []) g) ∷ [])
+IsSound-store n s f g e = record {
   rule = λ h. store s g f e;
   scope = λ h. ((AllByRecursion-append (IsProper (λ m. m < n)) s (f ∷ []) h.0 (h.1.0, tt), h.1.1), tt);
   logic = λ h. ((AllByRecursion-append IsLkf s (f ∷ []) h.0 (h.1.0, tt), h.1.1), tt);
   levels = (omega arith, tt);
 }
 
-worked-sound : (step : Step) (n : ℕ) (s : List Formula) (f : Formula) (g : List Formula) → IfSome (worked step n s f g) (IsSound n (up s (f ∷ g)))
-worked-sound TrueN n s (truth Negative) g = record { rule = λ h. true_negative s g; scope = λ h. tt; logic = λ h. tt; levels = tt }
-worked-sound FalseN n s (falsity Negative) g =
+-- a step of the negative phase
+IfSome-worked : (step : Step) (n : ℕ) (s : List Formula) (f : Formula) (g : List Formula) → IfSome (worked step n s f g) (IsSound n (up s (f ∷ g)))
+IfSome-worked TrueN n s (truth Negative) g = record { rule = λ h. true_negative s g; scope = λ h. tt; logic = λ h. tt; levels = tt }
+IfSome-worked FalseN n s (falsity Negative) g =
     record { rule = λ h. false_negative s g; scope = λ h. ((h.0, h.1.1), tt); logic = λ h. ((h.0, h.1.1), tt); levels = (omega arith, tt) }
-worked-sound OrN n s (disj Negative a b) g = record {
+IfSome-worked OrN n s (disj Negative a b) g = record {
   rule = λ h. or_negative s g a b;
   scope = λ h. ((h.0, (h.1.0.0, (h.1.0.1, h.1.1))), tt);
   logic = λ h. ((h.0, (h.1.0.0, (h.1.0.1, h.1.1))), tt);
   levels = (omega arith, tt);
 }
-worked-sound AndN n s (conj Negative a b) g = record {
+IfSome-worked AndN n s (conj Negative a b) g = record {
   rule = λ h. and_negative s g a b;
   scope = λ h. ((h.0, (h.1.0.0, h.1.1)), ((h.0, (h.1.0.1, h.1.1)), tt));
   logic = λ h. ((h.0, (h.1.0.0, h.1.1)), ((h.0, (h.1.0.1, h.1.1)), tt));
   levels = (omega arith, (omega arith, tt));
 }
-worked-sound Every n s (for_all a) g = every-sound n s a g
-worked-sound Store n s f g = IfSome-if (IsSound n (up s (f ∷ g))) (is_storable f) ((n, up (s ++ f ∷ []) g) ∷ []) (store-sound n s f g)
-worked-sound _ n s f g = tt
+IfSome-worked Every n s (for_all a) g = IsSound-every n s a g
+IfSome-worked Store n s f g = IfSome-if (IsSound n (up s (f ∷ g))) (is_storable f) ((n, up (s ++ f ∷ []) g) ∷ []) (IsSound-store n s f g)
+IfSome-worked _ n s f g = tt
 
-decide-sound : (n k : ℕ) (s : List Formula) (f : Formula) → slice_get s k ≡ Some f → polarity_of f ≡ Positive → IsSound n (up s []) ((n, down s f) ∷ [])
-decide-sound n k s f e p = record {
+-- a decision
+IsSound-decide : (n k : ℕ) (s : List Formula) (f : Formula) → slice_get s k ≡ Some f → polarity_of f ≡ Positive → IsSound n (up s []) ((n, down s f) ∷ [])
+IsSound-decide n k s f e p = record {
   rule = λ h. decide s f (k, e) p;
   scope = λ h. ((h.0, AllByRecursion-at (IsProper (λ m. m < n)) s k f h.0 e), tt);
   logic = λ h. ((h.0, AllByRecursion-at IsLkf s k f h.0 e), tt);
   levels = (omega arith, tt);
 }
 
-where_positive-sound : (P : List Levelled → Type 0) (p : Polarity) (ps : List Levelled) → (p ≡ Positive → P ps) → IfSome (where_positive p ps) P
-where_positive-sound P Positive ps h = h refl
-where_positive-sound P Negative ps h = tt
+-- the premises where a polarity fits
+IfSome-where_positive : (P : List Levelled → Type 0) (p : Polarity) (ps : List Levelled) → (p ≡ Positive → P ps) → IfSome (where_positive p ps) P
+IfSome-where_positive P Positive ps h = h refl
+IfSome-where_positive P Negative ps h = tt
 
-where_negative-sound : (P : List Levelled → Type 0) (p : Polarity) (ps : List Levelled) → (p ≡ Negative → P ps) → IfSome (where_negative p ps) P
-where_negative-sound P Positive ps h = tt
-where_negative-sound P Negative ps h = h refl
+IfSome-where_negative : (P : List Levelled → Type 0) (p : Polarity) (ps : List Levelled) → (p ≡ Negative → P ps) → IfSome (where_negative p ps) P
+IfSome-where_negative P Positive ps h = tt
+IfSome-where_negative P Negative ps h = h refl
 
-decided-sound : (n k : ℕ) (s : List Formula) (o : Option Formula) → slice_get s k ≡ o → IfSome (decided n s o) (IsSound n (up s []))
-decided-sound n k s None e = tt
-decided-sound n k s (Some f) e = where_positive-sound (IsSound n (up s [])) (polarity_of f) ((n, down s f) ∷ []) (decide-sound n k s f e)
+-- a decision on the formula at a place, if there is one
+IfSome-decided : (n k : ℕ) (s : List Formula) (o : Option Formula) → slice_get s k ≡ o → IfSome (decided n s o) (IsSound n (up s []))
+IfSome-decided n k s None e = tt
+IfSome-decided n k s (Some f) e = IfSome-where_positive (IsSound n (up s [])) (polarity_of f) ((n, down s f) ∷ []) (IsSound-decide n k s f e)
 
-cut-sound : (n : ℕ) (s : List Formula) (b : Formula) → IsProperStep Lkf (Cut b) → has_eigen_in n b ≡ false → IsSound n (up s []) ((n, up s (b ∷ [])) ∷ (n, up s (dual_of b ∷ [])) ∷ [])
-cut-sound n s b proper e =
+-- a cut
+IsSound-cut : (n : ℕ) (s : List Formula) (b : Formula) → IsProperStep Lkf (Cut b) → has_eigen_in n b ≡ false → IsSound n (up s []) ((n, up s (b ∷ [])) ∷ (n, up s (dual_of b ∷ [])) ∷ [])
+IsSound-cut n s b proper e =
     let within = EachInside-below n 0 b e proper.0 in
     record {
       rule = λ h. cut s b proper.0 proper.1;
@@ -110,60 +117,66 @@ cut-sound n s b proper e =
       levels = (omega arith, (omega arith, tt));
     }
 
-chosen-sound : (step : Step) (n : ℕ) (s : List Formula) → IsProperStep Lkf step → IfSome (chosen step n s) (IsSound n (up s []))
-chosen-sound (Decide k) n s proper = decided-sound n k s (slice_get s k) refl
-chosen-sound (Cut b) n s proper =
-    IfSome-if_not (IsSound n (up s [])) (has_eigen_in n b) ((n, up s (b ∷ [])) ∷ (n, up s (dual_of b ∷ [])) ∷ []) (cut-sound n s b proper)
-chosen-sound _ n s proper = tt
+-- a step at a sequent with nothing to work on
+IfSome-chosen : (step : Step) (n : ℕ) (s : List Formula) → IsProperStep Lkf step → IfSome (chosen step n s) (IsSound n (up s []))
+IfSome-chosen (Decide k) n s proper = IfSome-decided n k s (slice_get s k) refl
+IfSome-chosen (Cut b) n s proper =
+    IfSome-if_not (IsSound n (up s [])) (has_eigen_in n b) ((n, up s (b ∷ [])) ∷ (n, up s (dual_of b ∷ [])) ∷ []) (IsSound-cut n s b proper)
+IfSome-chosen _ n s proper = tt
 
-some-sound : (n : ℕ) (s : List Formula) (a : Formula) (t : Term) → IsProperTerm Always t → has_eigen_from n t ≡ false → IsSound n (down s (exists a)) ((n, down s (open_at 0 t a)) ∷ [])
-some-sound n s a t proper e = record {
+-- an instance of `some`
+IsSound-some : (n : ℕ) (s : List Formula) (a : Formula) (t : Term) → IsProperTerm Always t → has_eigen_from n t ≡ false → IsSound n (down s (exists a)) ((n, down s (open_at 0 t a)) ∷ [])
+IsSound-some n s a t proper e = record {
   rule = λ h. some s a t proper;
   scope = λ h. ((h.0, EachInside-open_at (λ m. m < n) t (Each-below n Never t e proper) 0 a h.1), tt);
   logic = λ h. ((h.0, IsLkf-open_at 0 t a h.1), tt);
   levels = (omega arith, tt);
 }
 
-release-sound : (n : ℕ) (s : List Formula) (f : Formula) → polarity_of f ≡ Negative → IsSound n (down s f) ((n, up s (f ∷ [])) ∷ [])
-release-sound n s f p = record { rule = λ h. release s f p; scope = λ h. ((h.0, (h.1, tt)), tt); logic = λ h. ((h.0, (h.1, tt)), tt); levels = (omega arith, tt) }
+-- a release
+IsSound-release : (n : ℕ) (s : List Formula) (f : Formula) → polarity_of f ≡ Negative → IsSound n (down s f) ((n, up s (f ∷ [])) ∷ [])
+IsSound-release n s f p = record { rule = λ h. release s f p; scope = λ h. ((h.0, (h.1, tt)), tt); logic = λ h. ((h.0, (h.1, tt)), tt); levels = (omega arith, tt) }
 
-init-sound : (n k : ℕ) (s : List Formula) (name name' : ℕ) (ts ts' : Args) → slice_get s k ≡ Some (atom false name' ts') → (nat_eq name name' && same_args ts ts') ≡ true → IsSound n (down s (atom true name ts)) []
-init-sound n k s name name' ts ts' e same =
+-- a literal closed by its dual at a place
+IsSound-init : (n k : ℕ) (s : List Formula) (name name' : ℕ) (ts ts' : Args) → slice_get s k ≡ Some (atom false name' ts') → (nat_eq name name' && same_args ts ts') ≡ true → IsSound n (down s (atom true name ts)) []
+IsSound-init n k s name name' ts ts' e same =
     let parts = and_parts (nat_eq name name') (same_args ts ts') same in
     let one : name ≡ name' = grind (arith, nat_tests) in
     let both : ts ≡ ts' = same_args-equal ts ts' parts.1 in
     let at : slice_get s k ≡ Some (atom false name ts) = cc in
     record { rule = λ h. initial s name ts (k, at); scope = λ h. tt; logic = λ h. tt; levels = tt }
 
-closed_with-sound : (n k : ℕ) (s : List Formula) (f : Formula) (o : Option Formula) → slice_get s k ≡ o → IfSome (closed_with f o) (IsSound n (down s f))
-closed_with-sound n k s (atom true name ts) (Some (atom false name' ts')) e =
-    IfSome-if (IsSound n (down s (atom true name ts))) (nat_eq name name' && same_args ts ts') [] (init-sound n k s name name' ts ts' e)
-closed_with-sound n k s _ _ e = tt
+-- a literal closed by the formula at a place, if there is one
+IfSome-closed_with : (n k : ℕ) (s : List Formula) (f : Formula) (o : Option Formula) → slice_get s k ≡ o → IfSome (closed_with f o) (IsSound n (down s f))
+IfSome-closed_with n k s (atom true name ts) (Some (atom false name' ts')) e =
+    IfSome-if (IsSound n (down s (atom true name ts))) (nat_eq name name' && same_args ts ts') [] (IsSound-init n k s name name' ts ts' e)
+IfSome-closed_with n k s _ _ e = tt
 
-focused-sound : (step : Step) (n : ℕ) (s : List Formula) (f : Formula) → IsProperStep Lkf step → IfSome (focused step n s f) (IsSound n (down s f))
-focused-sound TrueP n s (truth Positive) proper = record { rule = λ h. true_positive s; scope = λ h. tt; logic = λ h. tt; levels = tt }
-focused-sound AndP n s (conj Positive a b) proper = record {
+-- a step on the formula under focus
+IfSome-focused : (step : Step) (n : ℕ) (s : List Formula) (f : Formula) → IsProperStep Lkf step → IfSome (focused step n s f) (IsSound n (down s f))
+IfSome-focused TrueP n s (truth Positive) proper = record { rule = λ h. true_positive s; scope = λ h. tt; logic = λ h. tt; levels = tt }
+IfSome-focused AndP n s (conj Positive a b) proper = record {
   rule = λ h. and_positive s a b;
   scope = λ h. ((h.0, h.1.0), ((h.0, h.1.1), tt));
   logic = λ h. ((h.0, h.1.0), ((h.0, h.1.1), tt));
   levels = (omega arith, (omega arith, tt));
 }
-focused-sound (OrP Left) n s (disj Positive a b) proper =
+IfSome-focused (OrP Left) n s (disj Positive a b) proper =
     record { rule = λ h. or_left s a b; scope = λ h. ((h.0, h.1.0), tt); logic = λ h. ((h.0, h.1.0), tt); levels = (omega arith, tt) }
-focused-sound (OrP Right) n s (disj Positive a b) proper =
+IfSome-focused (OrP Right) n s (disj Positive a b) proper =
     record { rule = λ h. or_right s a b; scope = λ h. ((h.0, h.1.1), tt); logic = λ h. ((h.0, h.1.1), tt); levels = (omega arith, tt) }
-focused-sound (Exists t) n s (exists a) proper =
-    IfSome-if_not (IsSound n (down s (exists a))) (has_eigen_from n t) ((n, down s (open_at 0 t a)) ∷ []) (some-sound n s a t proper)
-focused-sound Release n s f proper = where_negative-sound (IsSound n (down s f)) (polarity_of f) ((n, up s (f ∷ [])) ∷ []) (release-sound n s f)
-focused-sound (Init k) n s f proper = closed_with-sound n k s f (slice_get s k) refl
-focused-sound _ n s f proper = tt
+IfSome-focused (Exists t) n s (exists a) proper =
+    IfSome-if_not (IsSound n (down s (exists a))) (has_eigen_from n t) ((n, down s (open_at 0 t a)) ∷ []) (IsSound-some n s a t proper)
+IfSome-focused Release n s f proper = IfSome-where_negative (IsSound n (down s f)) (polarity_of f) ((n, up s (f ∷ [])) ∷ []) (IsSound-release n s f)
+IfSome-focused (Init k) n s f proper = IfSome-closed_with n k s f (slice_get s k) refl
+IfSome-focused _ n s f proper = tt
 
 -- the premises that a proper step names, if it names some, are sound
-premises_of-sound : (step : Step) (n : ℕ) (c : Sequent) → IsProperStep Lkf step → IfSome (premises_of step n c) (IsSound n c)
-premises_of-sound step n (up s (f ∷ g)) proper = worked-sound step n s f g
-premises_of-sound step n (up s []) proper = chosen-sound step n s proper
-premises_of-sound step n (down s f) proper = focused-sound step n s f proper
+IfSome-premises_of : (step : Step) (n : ℕ) (c : Sequent) → IsProperStep Lkf step → IfSome (premises_of step n c) (IsSound n c)
+IfSome-premises_of step n (up s (f ∷ g)) proper = IfSome-worked step n s f g
+IfSome-premises_of step n (up s []) proper = IfSome-chosen step n s proper
+IfSome-premises_of step n (down s f) proper = IfSome-focused step n s f proper
 
 -- the same, at the premises
 pub IsSound-premises_of : (step : Step) (n : ℕ) (c : Sequent) (ps : List Levelled) → IsProperStep Lkf step → premises_of step n c ≡ Some ps → IsSound n c ps
-IsSound-premises_of step n c ps proper fits = rw fits at (premises_of-sound step n c proper)
+IsSound-premises_of step n c ps proper fits = rw fits at (IfSome-premises_of step n c proper)

@@ -32,6 +32,7 @@ record AreParted (ps q : List Levelled) (cs : Certificates) : Type 0 where
   later_derivations : AreDerivations later_trees
   preorder : (rest : List Step) → all_steps_before cs rest ≡ all_steps_before first_certificates (all_steps_before later_certificates rest)
 
+-- what spells sequents in two parts is parted
 AreParted-spell : (ps q : List Levelled) (cs : Certificates) (ts : Trees) → AllSpell cs ts (ps ++ q) → AreDerivations ts → AreParted ps q cs
 AreParted-spell [] q cs ts h d = record {
   first_certificates = no_certificates;
@@ -84,6 +85,7 @@ AreSpelled-plays _ _ (plays_more {step = step} {steps = steps} (plays {n} {c} {p
       preorder = let e = s.preorder in cc;
     }
 
+-- what spells the start of a goal alone is one certificate and one tree
 IsSpelling-spelled : (f : Formula) (steps : List Step) (cs : Certificates) (ts : Trees) → AllSpell cs ts (start_of f) → AreDerivations ts
     → all_steps_before cs [] ≡ steps → IsSpelling f steps
 IsSpelling-spelled f steps (certificate c no_certificates) (tree t no_trees) h d e =

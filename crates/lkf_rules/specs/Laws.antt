@@ -1,9 +1,9 @@
 -- Laws of play, spellings and derivations.
-use Rattle.std.specs.Prelude.{◌≡◌, ◌↔◌, ℕ, List, length}
+use Rattle.std.specs.Prelude.{◌≡◌, ◌↔◌, ℕ, List, length, IsPermutation}
 use Rattle.polarised_formulas.specs.declared.step.Step.{Step}
 use Rattle.polarised_formulas.specs.Formula.{Formula, IsClosed}
-use Rattle.lkf_rules.specs.Sequent.{Levelled}
-use Rattle.lkf_rules.specs.Derivation.{Tree, root_sequent, node_count, IsDerivable}
+use Rattle.lkf_rules.specs.Sequent.{Sequent, up, down, Levelled}
+use Rattle.lkf_rules.specs.Derivation.{Tree, IsDerivation, root_sequent, node_count, IsDerivable}
 use Rattle.lkf_rules.specs.Certificate.{Certificate, Spells, IsSpelling}
 use Rattle.lkf_rules.specs.Play.{PlaysOne, PlaysOut}
 
@@ -30,3 +30,18 @@ SpellsOneTree = (c : Certificate) (n : ℕ) (t u : Tree) → Spells c t n → Sp
 -- the same steps in preorder are those of one certificate and spell one derivation of a goal
 abbrev pub HasOneSpelling : Type 0
 HasOneSpelling = (f : Formula) (steps : List Step) (s t : IsSpelling f steps) → (s.certificate_of ≡ t.certificate_of) × (s.derivation.of ≡ t.derivation.of)
+
+-- the stored formulas of a sequent
+abbrev pub stored_of : Sequent → List Formula
+stored_of (up stored work) = stored
+stored_of (down stored focus) = stored
+
+-- the sequent with these stored formulas in the place of its own
+abbrev pub with_stored : List Formula → Sequent → Sequent
+with_stored fs (up stored work) = up fs work
+with_stored fs (down stored focus) = down fs focus
+
+-- with its stored formulas in another order, a sequent that has a derivation has one with as many nodes
+abbrev pub KeepsUnderExchange : Type 0
+KeepsUnderExchange = (t : Tree) (fs : List Formula) → IsDerivation t → IsPermutation (stored_of (root_sequent t)) fs
+    → (u : Tree) × (root_sequent u ≡ with_stored fs (root_sequent t)) × IsDerivation u × (node_count u ≡ node_count t)

@@ -1,5 +1,5 @@
 //! Laws of play, spellings and derivations. The functions do nothing: their contracts say the laws.
-ghost use Rattle.lkf_rules.specs.Laws.{PlayIsSpelling, PlayIsSound, HasOneNodeAStep, PlaysToOneList, SpellsOneTree, HasOneSpelling};
+ghost use Rattle.lkf_rules.specs.Laws.{PlayIsSpelling, PlayIsSound, HasOneNodeAStep, PlaysToOneList, SpellsOneTree, HasOneSpelling, KeepsUnderExchange};
 
 /// Steps play a closed goal out exactly where they are the preorder of a certificate that spells a derivation of the goal.
 pub fn play()
@@ -22,4 +22,9 @@ pub fn determinacy()
     ensures one_list { PlaysToOneList }
     ensures one_tree { SpellsOneTree }
     ensures one_spelling { HasOneSpelling }
+{}
+
+/// The order of the stored formulas does not matter: with them in another order, a sequent that has a derivation has one with as many nodes.
+pub fn exchange()
+    ensures { KeepsUnderExchange }
 {}
