@@ -1,8 +1,8 @@
 -- Sequents of LKF, without certificates, indexes and levels.
-use Rattle.std.specs.Prelude.{◌≡◌, ◌≢◌, ℕ, ◌<◌, List, [], ◌∷◌, Option, Some}
+use Rattle.std.specs.Prelude.{◌≡◌, ◌≢◌, ℕ, ◌<◌, List, [], ◌∷◌, Some}
 use Rattle.std.specs.List.{AllByRecursion}
 use Rattle.std.specs.Prelude.{slice_get}
-use Rattle.polarised_formulas.specs.Formula.{Formula, IsProper}
+use Rattle.polarised_formulas.specs.Formula.{Formula, IsProper, IsLkf}
 
 pub data Sequent : Type 0 where
   -- the stored formulas and those still to be worked on
@@ -22,6 +22,11 @@ IsFresh j c = IsProperSequent (λ n. n ≢ j) c
 -- the formula stands in the list
 abbrev pub StandsIn : List Formula → Formula → Type 0
 StandsIn fs f = (k : ℕ) × (slice_get fs k ≡ Some f)
+
+-- each formula of the sequent is one of LKF
+abbrev pub IsLkfSequent : Sequent → Type 0
+IsLkfSequent (up stored work) = AllByRecursion IsLkf stored × AllByRecursion IsLkf work
+IsLkfSequent (down stored focus) = AllByRecursion IsLkf stored × IsLkf focus
 
 -- the root sequent of a goal
 abbrev pub root_of : Formula → Sequent

@@ -1,0 +1,5 @@
+use Rattle.lkf_rules.proofs.Spelling.{length-spelling}
+use Rattle.lkf_rules.proofs.laws.one_node_a_step.Goals as goal
+
+pub returns : goal.returns
+returns c = length-spelling

@@ -1,0 +1,30 @@
+//! Laws of play, spellings and derivations. The functions do nothing: their contracts say the laws.
+ghost use Rattle.lkf_rules.specs.Laws.{PlayIsSpelling, PlayIsSound, HasOneNodeAStep, PlaysToOneList, SpellsOneTree, HasOneSpelling, KeepsUnderExchange};
+
+/// Steps play a closed goal out exactly where they are the preorder of a certificate that spells a derivation of the goal.
+pub fn play()
+    ensures { PlayIsSpelling }
+{}
+
+/// A closed goal that some steps play out is derivable.
+pub fn soundness()
+    ensures { PlayIsSound }
+{}
+
+/// A derivation has as many nodes as the steps that spell it.
+pub fn one_node_a_step()
+    ensures { HasOneNodeAStep }
+{}
+
+/// What steps say is determined: a step plays a list of sequents to at most one list, a certificate spells at most one derivation
+/// of a sequent at a level, and steps are the preorder of at most one certificate that spells a derivation of a goal.
+pub fn determinacy()
+    ensures one_list { PlaysToOneList }
+    ensures one_tree { SpellsOneTree }
+    ensures one_spelling { HasOneSpelling }
+{}
+
+/// The order of the stored formulas does not matter: with them in another order, a sequent that has a derivation has one with as many nodes.
+pub fn exchange()
+    ensures { KeepsUnderExchange }
+{}
