@@ -1,5 +1,5 @@
 //! Whole sources read, and whole pieces written.
-ghost use Rattle.std.specs.Prelude.{◌≡◌, ◌+◌, ◌<◌, ◌≤◌, OnOk, OnErr, IfOk, length, vec_len};
+ghost use Rattle.std.specs.Prelude.{◌≡◌, ◌+◌, ◌<◌, ◌≤◌, OnOk, OnErr, IfOk, length, take, vec_len};
 ghost use Rattle.std.specs.Prelude.{IsErrOf};
 ghost use Rattle.fpc_base.specs.Outside.{Rose, TakesFront, TakesAtMost, IsAtEnd, HasMoreThan, Adds, AddsPrefix};
 
@@ -9,6 +9,24 @@ use std::alloc::Global;
 
 /// The most bytes that one call of `read` is asked for.
 const PIECE: usize = 65_536;
+
+/// Reads at most `most` bytes into the front of the buffer.
+fn read_piece<S: Source>(src: &mut S, buffer: &mut [u8], most: usize) -> Result<usize, Failed>
+    requires some { 0 < most }
+    requires room { most ≤ length buffer.old }
+    ensures never_falls { S.faults src.old ≤ S.faults src.new }
+    ensures ok_count { OnOk result (S.faults src.new ≡ S.faults src.old) }
+    ensures failed { OnErr result (Rose (S.faults src.old) (S.faults src.new)) }
+    ensures within { IfOk result (λ n. n ≤ most) }
+    ensures taken { IfOk result (λ n. TakesFront (S.left src.old) (take n buffer.new) (S.left src.new)) }
+    ensures end { IfOk result (λ n. n ≡ 0 → IsAtEnd (S.left src.old)) }
+    ensures none_taken { OnErr result (S.left src.new ≡ S.left src.old) }
+    ensures content { S.content src.new ≡ S.content src.old }
+    ensures calls { S.calls src.new ≤ S.calls src.old + 1 }
+{
+    let (front, _) = buffer.split_at_mut(most);
+    src.read(front)
+}
 
 /// Reads the source to its end, if it holds at most `limit` bytes. Memory is a small multiple of the bytes read.
 pub fn read_all<S: Source>(alloc: Global, src: &mut S, limit: usize) -> Result<Vec<u8>, ReadRefusal>
@@ -33,11 +51,10 @@ pub fn read_all<S: Source>(alloc: Global, src: &mut S, limit: usize) -> Result<V
     let mut bytes = Vec::new(alloc);
     while bytes.len() <= limit {
         let most = (limit - bytes.len()).min(PIECE - 1) + 1;
-        let piece = &mut buffer[..most];
-        match src.read(piece) {
+        match read_piece(src, &mut buffer, most) {
             Ok(0) => return Ok(bytes),
             Ok(n) => {
-                if bytes.extend_from_slice(&piece[..n]).is_err() {
+                if bytes.extend_from_slice(&buffer[..n]).is_err() {
                     return Err(ReadRefusal::OutOfMemory);
                 }
             }
