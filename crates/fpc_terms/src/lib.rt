@@ -3,8 +3,10 @@
 
 pub mod cell;
 pub mod name;
+pub mod names;
 pub mod term;
 
 pub use cell::Cell;
 pub use name::NameId;
+pub use names::Names;
 pub use term::TermBuf;

@@ -1,5 +1,5 @@
 //! Names by number.
-ghost use Rattle.std.specs.Prelude.{ℕ};
+ghost use Rattle.std.specs.Prelude.{◌≡◌, ℕ};
 
 use std::marker::Model;
 
@@ -17,4 +17,18 @@ impl Model for NameId {
     ghost view = { λ a. a.number };
 
     ghost inverse = { λ n. record { number = n } };
+}
+
+impl NameId {
+    pub(crate) fn new(number: u32) -> NameId
+        ensures { result ≡ number }
+    {
+        NameId { number }
+    }
+
+    pub(crate) fn index(self) -> usize
+        ensures { result ≡ self }
+    {
+        self.number as usize
+    }
 }
