@@ -44,29 +44,29 @@ module _ (m n : BTreeMap (Vec ℕ) ℕ) where
   pub number_of-other : (key : List ℕ) (w : Option ℕ) → UpdatesBy (λ x y. slice_cmp nat_cmp x.items y.items) (λ k. slice_cmp nat_cmp key k.items) m n w → (text : List ℕ) → ¬ (text ≡ key) → number_of n text ≡ number_of m text
   number_of-other key w h text ne =
       lookup_kept _ _ _ _ h.3 _
-          (λ x y. (eq_by_cmp_equiv nat_list_cmp_total).congr text x.items y.items)
-          (λ k e. false_from_ne_true _ (λ other. ne (same_texts text k.items other ∙ sym (same_texts key k.items e))))
+      (λ x y. (eq_by_cmp_equiv nat_list_cmp_total).congr text x.items y.items)
+      (λ k e. false_from_ne_true _ (λ other. ne (same_texts text k.items other ∙ sym (same_texts key k.items e))))
 
   -- one more name
   module _ (names : List (List ℕ)) (text : List ℕ) (old : Numbers m names) (absent : ¬ (HasName names text)) (here : number_of n text ≡ Some (length names)) (others : (other : List ℕ) → ¬ (other ≡ text) → number_of n other ≡ number_of m other) where
     place_from_number : (place : ℕ) (other : List ℕ) → number_of n other ≡ Some place → slice_get (names ++ text ∷ []) place ≡ Some other
     place_from_number place other h =
         elim (same_or_not other text) [
-          inl same ↦ subst (λ k. slice_get (names ++ text ∷ []) k ≡ Some other) (cc (same, h, here)) (subst (λ t. slice_get (names ++ text ∷ []) (length names) ≡ Some t) (sym same) (got_last names text))
+          | inl same ↦ subst (λ k. slice_get (names ++ text ∷ []) k ≡ Some other) (cc (same, h, here)) (subst (λ t. slice_get (names ++ text ∷ []) (length names) ≡ Some t) (sym same) (got_last names text))
           | inr differs ↦ got_before names (text ∷ []) place other ((old.places place other).0 (sym (others other differs) ∙ h))
         ]
 
     number_from_place : (place : ℕ) (other : List ℕ) → slice_get (names ++ text ∷ []) place ≡ Some other → number_of n other ≡ Some place
     number_from_place place other h =
         elim (got_push names text other place h) [
-          inl before ↦ others other (λ same. absent (place, subst (λ t. slice_get names place ≡ Some t) same before)) ∙ (old.places place other).1 before
+          | inl before ↦ others other (λ same. absent (place, subst (λ t. slice_get names place ≡ Some t) same before)) ∙ (old.places place other).1 before
           | inr last ↦ rw (last.0, last.1) here
         ]
 
     name_from_place : IsName text → (place : ℕ) (other : List ℕ) → slice_get (names ++ text ∷ []) place ≡ Some other → IsName other
     name_from_place is_name place other h =
         elim (got_push names text other place h) [
-          inl before ↦ old.each place other before
+          | inl before ↦ old.each place other before
           | inr last ↦ subst IsName (sym last.1) is_name
         ]
 
