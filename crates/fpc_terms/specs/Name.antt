@@ -1,6 +1,6 @@
 -- Names as texts, and tables of them.
-use Rattle.std.specs.Prelude.{◌≡◌, ℕ, ◌+◌, ◌<◌, ◌^◌, Bool, ◌&&◌, ◌||◌, nat_eq, nat_le, IsTrue, List, [], ◌∷◌, ◌++◌, length, slice_get, Option, Some, ◌⊎◌, ◌↔◌}
-use Rattle.std.specs.List.{AllByRecursion}
+use Rattle.std.specs.Prelude.{◌≡◌, ℕ, ◌<◌, ◌^◌, Bool, ◌&&◌, ◌||◌, nat_eq, nat_le, IsTrue, List, [], ◌∷◌, ◌++◌, length, slice_get, Option, Some, ◌⊎◌, ◌↔◌}
+use Rattle.std.specs.List.{list_all}
 use Rattle.std.specs.BTreeMap.{BTreeMap, get_by}
 use Rattle.std.specs.Cmp.Lexicographic.{slice_cmp}
 use Rattle.std.specs.Ordering.{nat_cmp}
@@ -21,7 +21,7 @@ is_name_byte b = is_small_letter b || is_from_to 65 90 b || is_from_to 48 57 b |
 -- a small letter, and then letters, digits and `_`: at most 255 bytes
 abbrev pub IsName : List ℕ → Type 0
 IsName [] = ⊥
-IsName (b ∷ bs) = IsTrue (is_small_letter b) × AllByRecursion (λ c. IsTrue (is_name_byte c)) bs × (length bs < 255)
+IsName (b ∷ bs) = IsTrue (is_small_letter b) × IsTrue (list_all is_name_byte bs) × (length bs < 255)
 
 -- the text is one of the names
 abbrev pub HasName : List (List ℕ) → List ℕ → Type 0

@@ -9,6 +9,6 @@ pub mod term;
 
 pub use cell::Cell;
 pub use list::Terms;
-pub use name::NameId;
+pub use name::{NameId, is_name};
 pub use names::Names;
 pub use term::TermBuf;

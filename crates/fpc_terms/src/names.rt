@@ -119,10 +119,13 @@ impl Names {
 #[cfg(test)]
 mod tests {
     use super::*;
+    use crate::name::is_name;
     use std::test::Fail;
 
     #[test]
     fn equal_texts_have_equal_ids(rt: HostRuntime) -> Result<(), Fail> {
+        assert!(rt; is_name(b"append"));
+        assert!(rt; !is_name(b"Nil"));
         let mut names = Names::new(rt.alloc());
         assert!(rt; names.is_empty());
         let append = names.intern(b"append")?;

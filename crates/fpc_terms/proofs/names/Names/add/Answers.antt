@@ -1,5 +1,5 @@
 use Rattle.std.proofs.lemmas.Grind.{common_steps}
-use Rattle.std.proofs.Common.{◌≡◌, arith, map, ◌++◌, ◌∷◌, [], length, refl, List, ℕ, ◌∙◌, sym, ◌<◌, ◌^◌}
+use Rattle.std.proofs.Common.{◌≡◌, arith, map, ◌++◌, ◌∷◌, [], length, refl, List, ℕ, ◌<◌, ◌^◌}
 use Rattle.std.proofs.lemmas.List.{map-append, length-map}
 use Rattle.fpc_terms.proofs.Interning.{Numbers-insert}
 use Rattle.fpc_terms.proofs.names.Names.add.Goals as goal

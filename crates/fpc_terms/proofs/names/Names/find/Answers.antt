@@ -1,5 +1,4 @@
-use Rattle.std.proofs.Common.{arith, Some, None, ◌≡◌}
-use Rattle.fpc_terms.specs.Name.{number_of}
+use Rattle.std.proofs.Common.{Some, None}
 use Rattle.fpc_terms.proofs.Interning.{found_from_number}
 use Rattle.fpc_terms.proofs.names.Names.find.Goals as goal
 
