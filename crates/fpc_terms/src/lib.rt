@@ -2,9 +2,13 @@
 #![tactic(auto)]
 
 pub mod cell;
+pub mod list;
 pub mod name;
+pub mod names;
 pub mod term;
 
 pub use cell::Cell;
-pub use name::NameId;
+pub use list::Terms;
+pub use name::{NameId, is_name};
+pub use names::Names;
 pub use term::TermBuf;

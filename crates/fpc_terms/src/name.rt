@@ -1,5 +1,7 @@
 //! Names by number.
-ghost use Rattle.std.specs.Prelude.{ℕ};
+ghost use Rattle.std.specs.Prelude.{◌≡◌, ℕ, IsTrue, ◌↔◌};
+ghost use Rattle.std.specs.List.{list_all};
+ghost use Rattle.fpc_terms.specs.Name.{IsName, is_small_letter, is_name_byte};
 
 use std::marker::Model;
 
@@ -17,4 +19,48 @@ impl Model for NameId {
     ghost view = { λ a. a.number };
 
     ghost inverse = { λ n. record { number = n } };
+}
+
+impl NameId {
+    pub(crate) fn new(number: u32) -> NameId
+        ensures { result ≡ number }
+    {
+        NameId { number }
+    }
+
+    pub(crate) fn index(self) -> usize
+        ensures { result ≡ self }
+    {
+        self.number as usize
+    }
+}
+
+/// Whether a text is a name: a small letter, then letters, digits and `_`, at most 255 bytes.
+pub fn is_name(text: &[u8]) -> bool
+    ensures { IsTrue result ↔ IsName text.now }
+{
+    match text.split_first() {
+        Some((first, rest)) => {
+            is_small_letter(*first) && rest.len() < 255 && are_name_bytes(rest)
+        }
+        None => false,
+    }
+}
+
+fn are_name_bytes(text: &[u8]) -> bool
+    ensures { result ≡ list_all is_name_byte text.now }
+{
+    text.iter().all(|b| is_name_byte(*b))
+}
+
+fn is_small_letter(b: u8) -> bool
+    ensures { result ≡ is_small_letter b }
+{
+    b >= b'a' && b <= b'z'
+}
+
+fn is_name_byte(b: u8) -> bool
+    ensures { result ≡ is_name_byte b }
+{
+    is_small_letter(b) || b >= b'A' && b <= b'Z' || b >= b'0' && b <= b'9' || b == b'_'
 }

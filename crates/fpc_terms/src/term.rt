@@ -1,5 +1,5 @@
 //! Terms as their cells.
-ghost use Rattle.std.specs.Prelude.{◌≡◌, IfOk};
+ghost use Rattle.std.specs.Prelude.{◌≡◌, IfOk, IsTrue, ◌↔◌};
 ghost use Rattle.fpc_terms.specs.Term.{term_of, cells_of, IsOneTerm};
 
 use crate::cell::Cell;
@@ -8,7 +8,7 @@ use std::alloc::Global;
 use std::marker::Model;
 
 /// A term, as its cells in prefix order.
-#[derive(Drop)]
+#[derive(Clone, Drop)]
 pub struct TermBuf {
     cells: Vec<Cell>,
 }
@@ -42,4 +42,26 @@ impl TermBuf {
     {
         self.cells.as_slice()
     }
+}
+
+/// Whether two terms are the same. Time is linear in the shorter of them.
+#[tactic(auto, using(crate::proofs::TermFacts::term_facts))]
+pub fn equal(a: &TermBuf, b: &TermBuf) -> bool
+    ensures { IsTrue result ↔ (a.now ≡ b.now) }
+{
+    equal_cells(a.cells(), b.cells())
+}
+
+fn equal_cells(a: &[Cell], b: &[Cell]) -> bool
+    ensures { IsTrue result ↔ (a.now ≡ b.now) }
+{
+    if a.len() != b.len() {
+        return false;
+    }
+    for i in 0..a.len() {
+        if a[i] != b[i] {
+            return false;
+        }
+    }
+    true
 }

@@ -1,0 +1,47 @@
+-- Names as texts, and tables of them.
+use Rattle.std.specs.Prelude.{◌≡◌, ℕ, ◌<◌, ◌^◌, Bool, ◌&&◌, ◌||◌, nat_eq, nat_le, IsTrue, List, [], ◌∷◌, ◌++◌, length, slice_get, Option, Some, ◌⊎◌, ◌↔◌}
+use Rattle.std.specs.List.{list_all}
+use Rattle.std.specs.BTreeMap.{BTreeMap, get_by}
+use Rattle.std.specs.Cmp.Lexicographic.{slice_cmp}
+use Rattle.std.specs.Ordering.{nat_cmp}
+use Rattle.std.specs.Global.{Vec}
+
+-- the byte lies from the first to the last
+abbrev pub is_from_to : ℕ → ℕ → ℕ → Bool
+is_from_to first last b = nat_le first b && nat_le b last
+
+-- a small letter, a to z
+abbrev pub is_small_letter : ℕ → Bool
+is_small_letter b = is_from_to 97 122 b
+
+-- a letter, a digit or `_`
+abbrev pub is_name_byte : ℕ → Bool
+is_name_byte b = is_small_letter b || is_from_to 65 90 b || is_from_to 48 57 b || nat_eq b 95
+
+-- a small letter, and then letters, digits and `_`: at most 255 bytes
+abbrev pub IsName : List ℕ → Type 0
+IsName [] = ⊥
+IsName (b ∷ bs) = IsTrue (is_small_letter b) × IsTrue (list_all is_name_byte bs) × (length bs < 255)
+
+-- the text is one of the names
+abbrev pub HasName : List (List ℕ) → List ℕ → Type 0
+HasName names text = (k : ℕ) × (slice_get names k ≡ Some text)
+
+-- no text stands at two places
+abbrev pub AreDifferent : List (List ℕ) → Type 0
+AreDifferent names = (i j : ℕ) (text : List ℕ) → slice_get names i ≡ Some text → slice_get names j ≡ Some text → i ≡ j
+
+-- the names after a text was looked up: it stands at the end, where it was not there before
+abbrev pub IsInterned : List (List ℕ) → List ℕ → List (List ℕ) → Type 0
+IsInterned old text new = (HasName old text × (new ≡ old)) ⊎ (¬ (HasName old text) × (new ≡ old ++ text ∷ []))
+
+-- the number that the map has for a text
+abbrev pub number_of : BTreeMap (Vec ℕ) ℕ → List ℕ → Option ℕ
+number_of numbers text = get_by (λ k. slice_cmp nat_cmp text k.items) numbers
+
+-- what ties a map to the names that it numbers
+pub record Numbers (numbers : BTreeMap (Vec ℕ) ℕ) (names : List (List ℕ)) : Type 0 where
+  -- the map has for each name its place, and nothing else
+  pub places : (place : ℕ) (text : List ℕ) → (number_of numbers text ≡ Some place) ↔ (slice_get names place ≡ Some text)
+  pub each : (place : ℕ) (text : List ℕ) → slice_get names place ≡ Some text → IsName text
+  pub few : length names < 2 ^ 32

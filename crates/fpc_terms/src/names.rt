@@ -1,0 +1,143 @@
+//! The names in use, each with its number.
+ghost use Rattle.std.specs.Prelude.{◌≡◌, ◌<◌, ◌^◌, ◌++◌, ◌∷◌, [], IfOk, IsOk, MatchOption, OnOk, OnErr, Some, length, slice_get, IsTrue, ◌↔◌};
+ghost use Rattle.fpc_terms.specs.Name.{IsName, HasName, AreDifferent, IsInterned};
+
+use crate::name::NameId;
+use fpc_base::outside::OutOfMemory;
+use std::alloc::Global;
+use std::collections::BTreeMap;
+use std::marker::Model;
+
+/// How many names a table may hold.
+const MOST: usize = 0xffff_ffff;
+
+/// The names in use. Each has a number, and different numbers have different texts.
+#[derive(Drop)]
+pub struct Names {
+    texts: Vec<Vec<u8>>,
+    numbers: BTreeMap<Vec<u8>, u32>,
+}
+
+impl Model for Names {
+    ghost use Rattle.std.specs.Prelude.{ℕ, List, map};
+    ghost use Rattle.fpc_terms.specs.Name.{Numbers};
+
+    ghost Value = { List (List ℕ) };
+
+    ghost view = { λ n. map (λ text. text.items) n.texts.items };
+
+    ghost invariant = { λ n. Numbers n.numbers (map (λ text. text.items) n.texts.items) };
+}
+
+impl Names {
+    /// The table with no names. It takes no memory.
+    pub fn new(alloc: Global) -> Names
+        ensures { result ≡ [] }
+    {
+        Names {
+            texts: Vec::new(alloc),
+            numbers: BTreeMap::new(alloc),
+        }
+    }
+
+    /// How many names there are.
+    pub fn len(&self) -> usize
+        ensures len { result ≡ length self.now }
+        ensures few { result < 2 ^ 32 }
+    {
+        self.texts.len()
+    }
+
+    /// Whether there are no names.
+    pub fn is_empty(&self) -> bool
+        ensures { IsTrue result ↔ (self.now ≡ []) }
+    {
+        self.texts.is_empty()
+    }
+
+    /// The text of a name of this table.
+    pub fn text(&self, name: NameId) -> &[u8]
+        requires { name < length self.now }
+        ensures text { slice_get self.now name ≡ Some result.now }
+        ensures is_name { IsName result.now }
+    {
+        self.texts[name.index()].as_slice()
+    }
+
+    /// Different ids have different texts.
+    pub fn distinct(&self)
+        ensures { AreDifferent self.now }
+    {
+        let _ = &self.texts;
+    }
+
+    /// The id of a text, which gets one where it has none yet. Time is logarithmic in the number
+    /// of names; a text that has an id takes no memory.
+    pub fn intern(&mut self, text: &[u8]) -> Result<NameId, OutOfMemory>
+        requires { IsName text.now }
+        ensures id { IfOk result (λ id. slice_get self.new id ≡ Some text.now) }
+        ensures names { OnOk result (IsInterned self.old text.now self.new) }
+        ensures known { HasName self.old text.now → IsOk result }
+        ensures err { OnErr result (self.new ≡ self.old) }
+    {
+        match self.find(text) {
+            Some(id) => Ok(id),
+            None => self.add(text),
+        }
+    }
+
+    fn find(&self, text: &[u8]) -> Option<NameId>
+        ensures { MatchOption result (¬ (HasName self.now text.now)) (λ id. slice_get self.now id ≡ Some text.now) }
+    {
+        match self.numbers.get(text) {
+            Some(number) => Some(NameId::new(*number)),
+            None => None,
+        }
+    }
+
+    fn add(&mut self, text: &[u8]) -> Result<NameId, OutOfMemory>
+        requires is_name { IsName text.now }
+        requires absent { ¬ (HasName self.old text.now) }
+        ensures id { IfOk result (λ id. id ≡ length self.old) }
+        ensures names { OnOk result (self.new ≡ self.old ++ text.now ∷ []) }
+        ensures err { OnErr result (self.new ≡ self.old) }
+    {
+        let alloc = *self.texts.allocator();
+        let place = self.texts.len();
+        if place == MOST {
+            return Err(OutOfMemory);
+        }
+        let key = text.to_vec(alloc)?;
+        let kept = text.to_vec(alloc)?;
+        self.texts.reserve(1)?;
+        self.numbers.insert(key, place as u32)?;
+        self.texts.push(kept)?;
+        Ok(NameId::new(place as u32))
+    }
+}
+
+#[cfg(test)]
+mod tests {
+    use super::*;
+    use crate::name::is_name;
+    use std::test::Fail;
+
+    #[test]
+    fn equal_texts_have_equal_ids(rt: HostRuntime) -> Result<(), Fail> {
+        assert!(rt; is_name(b"append"));
+        assert!(rt; !is_name(b"Nil"));
+        let mut names = Names::new(rt.alloc());
+        assert!(rt; names.is_empty());
+        let append = names.intern(b"append")?;
+        let nil = names.intern(b"nil")?;
+        let again = names.intern(b"append")?;
+        assert_eq!(rt; append, again);
+        assert_ne!(rt; append, nil);
+        assert_eq!(rt; names.intern(b"nil")?, nil);
+        assert_eq!(rt; names.len(), 2);
+        names.distinct();
+        assert_eq!(rt; names.text(append), b"append".as_slice());
+        assert_eq!(rt; names.text(nil), b"nil".as_slice());
+        Ok(())
+    }
+}
