@@ -5,6 +5,7 @@ pub mod formula;
 pub mod list;
 pub mod logic;
 pub mod node;
+pub mod shape;
 pub mod step;
 
 pub use formula::Formula;
