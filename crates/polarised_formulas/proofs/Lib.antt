@@ -1,1 +1,3 @@
 pub mod NodeFacts
+pub mod DualFacts
+pub mod PartFacts

@@ -1,5 +1,6 @@
 -- What one node says of its formula, and what is read off a list of nodes.
 use Rattle.std.specs.Prelude.{◌≡◌, ℕ, zero, suc, ◌+◌, not, List, [], ◌∷◌}
+use Rattle.fpc_terms.specs.declared.cell.Cell.TheVariants.{Eigen, Bound, Var, App}
 use Rattle.polarised_formulas.specs.declared.logic.Polarity.{Polarity}
 use Rattle.polarised_formulas.specs.declared.logic.Polarity.TheVariants.{Positive, Negative}
 use Rattle.polarised_formulas.specs.declared.node.Node.{Node}
@@ -30,24 +31,26 @@ node_dual ForAll = Exists
 node_dual Exists = ForAll
 node_dual (Inside c) = Inside c
 
--- how many formulas a formula with this outermost node is made of
+-- how many formulas and terms stand behind a node as its parts
 abbrev pub arity : Node → ℕ
 arity (True p) = 0
 arity (False p) = 0
-arity (Atom positive name n) = 0
+arity (Atom positive name n) = n
 arity (And p) = 2
 arity (Or p) = 2
 arity Implies = 2
 arity ForAll = 1
 arity Exists = 1
-arity (Inside c) = 0
+arity (Inside (Eigen n)) = 0
+arity (Inside (Bound k)) = 0
+arity (Inside (Var n)) = 0
+arity (Inside (App f n)) = n
 
--- How many of the nodes spell as many formulas as wanted. The cells that stand behind a literal belong to it.
+-- how many nodes the first of the formulas and terms have, as many of these as wanted
 abbrev pub front_length : ℕ → List Node → ℕ
-front_length wanted [] = 0
-front_length wanted (Inside c ∷ ns) = suc (front_length wanted ns)
-front_length zero (n ∷ ns) = 0
-front_length (suc wanted) (n ∷ ns) = suc (front_length (arity n + wanted) ns)
+front_length zero ns = 0
+front_length (suc wanted) [] = 0
+front_length (suc wanted) (n ∷ ns) = suc (front_length (wanted + arity n) ns)
 
 -- the dual of a dual is the formula itself
 abbrev pub DualOfDual : Type 0

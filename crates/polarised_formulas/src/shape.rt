@@ -14,7 +14,12 @@ fn polarity_of_node(node: Node) -> Polarity
     match node {
         Node::True(p) | Node::False(p) | Node::And(p) | Node::Or(p) => p,
         Node::Atom { positive: true, .. } | Node::Exists | Node::Inside(_) => Polarity::Positive,
-        Node::Atom { positive: false, .. } | Node::Implies | Node::ForAll => Polarity::Negative,
+        Node::Atom {
+            positive: false,
+            ..
+        }
+        | Node::Implies
+        | Node::ForAll => Polarity::Negative,
     }
 }
 
