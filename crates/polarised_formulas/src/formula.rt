@@ -50,4 +50,11 @@ impl Formula {
     {
         self.nodes.as_slice()
     }
+
+    /// A copy of the formula. Time and memory are linear in its size.
+    pub fn copy(&self) -> Result<Formula, OutOfMemory>
+        ensures { IfOk result (λ f. f ≡ self.now) }
+    {
+        Ok(self.clone()?)
+    }
 }
