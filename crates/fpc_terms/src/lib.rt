@@ -3,6 +3,7 @@
 
 pub mod cell;
 pub mod name;
+pub mod scope;
 pub mod term;
 
 pub use cell::Cell;

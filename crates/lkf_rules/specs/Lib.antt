@@ -4,3 +4,4 @@ pub mod Derivation
 pub mod Premises
 pub mod Certificate
 pub mod Play
+pub mod Values
