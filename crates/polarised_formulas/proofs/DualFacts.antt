@@ -1,13 +1,13 @@
 -- Duals node by node.
-use Rattle.std.proofs.Common.{◌≡◌, ℕ, ◌<◌, ◌+◌, List, [], ◌∷◌, length, get_or, map, refl, ap, sym, ◌∙◌, arith}
-use Rattle.std.specs.Prelude.{Bool, true, false, not, zero, suc}
+use Rattle.std.proofs.Common.{◌≡◌, List, [], ◌∷◌, map, refl, ap, sym, ◌∙◌}
+use Rattle.std.specs.Prelude.{Bool, true, false, not}
 use Rattle.fpc_terms.specs.declared.cell.Cell.{Cell}
-use Rattle.fpc_terms.specs.Term.{count, all_before}
+use Rattle.fpc_terms.specs.Term.{all_before}
 use Rattle.polarised_formulas.specs.declared.logic.Polarity.{Polarity}
 use Rattle.polarised_formulas.specs.declared.logic.Polarity.TheVariants.{Positive, Negative}
 use Rattle.polarised_formulas.specs.declared.node.Node.{Node}
 use Rattle.polarised_formulas.specs.declared.node.Node.TheVariants.{Inside}
-use Rattle.polarised_formulas.specs.Formula.{Formula, truth, falsity, atom, conj, disj, implies, for_all, exists, nodes_before, nodes_of, formula_of, formula_of-nodes_of, inside_before, polarity_of, other_polarity, sign_polarity, dual_of, IsLkf, IsOneFormula}
+use Rattle.polarised_formulas.specs.Formula.{Formula, truth, falsity, atom, conj, disj, implies, for_all, exists, nodes_before, nodes_of, formula_of, formula_of-nodes_of, inside_before, polarity_of, other_polarity, sign_polarity, dual_of, IsLkf}
 use Rattle.polarised_formulas.specs.Nodes.{node_dual}
 
 map-inside_before : (cs : List Cell) (ns : List Node) → map node_dual (inside_before cs ns) ≡ inside_before cs (map node_dual ns)

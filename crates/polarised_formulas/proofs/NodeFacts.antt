@@ -1,10 +1,7 @@
 -- What the nodes of a formula are like.
-use Rattle.std.proofs.Common.{◌≡◌, ℕ, ◌<◌, ◌+◌, List, [], ◌∷◌, length, get_or, map, refl, ap, arith}
-use Rattle.std.specs.Prelude.{zero, suc}
-use Rattle.fpc_terms.specs.declared.cell.Cell.{Cell}
-use Rattle.fpc_terms.specs.Term.{count, all_before}
+use Rattle.std.proofs.Common.{◌≡◌, ◌<◌, length, get_or, refl, arith}
 use Rattle.polarised_formulas.specs.declared.node.Node.{Node}
-use Rattle.polarised_formulas.specs.Formula.{Formula, truth, falsity, atom, conj, disj, implies, for_all, exists, nodes_before, nodes_of, inside_before, root_node, polarity_of}
+use Rattle.polarised_formulas.specs.Formula.{Formula, truth, falsity, atom, conj, disj, implies, for_all, exists, nodes_of, root_node, polarity_of}
 use Rattle.polarised_formulas.specs.Nodes.{node_polarity}
 
 pub nodes_of-not_empty : (f : Formula) → 0 < length (nodes_of f)

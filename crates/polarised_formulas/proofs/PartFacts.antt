@@ -1,16 +1,15 @@
 -- Where the parts of a formula stand among its nodes.
-use Rattle.std.proofs.Common.{◌≡◌, ℕ, ◌<◌, ◌≤◌, ◌+◌, List, [], ◌∷◌, ◌++◌, length, take, drop, refl, ap, sym, ◌∙◌, arith}
+use Rattle.std.proofs.Common.{◌≡◌, ℕ, ◌≤◌, ◌+◌, List, [], ◌∷◌, ◌++◌, length, take, drop, refl, arith}
 use Rattle.std.proofs.Math.Nat.{add-zero, add-suc}
 use Rattle.std.proofs.Math.Numerals.{add-one, add-two}
 use Rattle.std.proofs.Math.Seq.{take-append_seam, drop-append_seam}
 use Rattle.std.proofs.lemmas.List.Sums.{sum_by-cons}
 use Rattle.std.specs.List.{sum_by}
-use Rattle.std.specs.Prelude.{zero, suc, Option, Some}
+use Rattle.std.specs.Prelude.{suc, Some}
 use Rattle.std.specs.Option.{IsSome}
 use Rattle.fpc_terms.specs.declared.cell.Cell.{Cell}
 use Rattle.fpc_terms.specs.Term.{Term, Args, eigen, bound, variable, app, no_args, arg, count, cells_before, all_before}
 use Rattle.polarised_formulas.specs.declared.node.Node.{Node}
-use Rattle.polarised_formulas.specs.declared.node.Node.TheVariants.{Inside}
 use Rattle.polarised_formulas.specs.Formula.{Formula, truth, falsity, atom, conj, disj, implies, for_all, exists, nodes_before, nodes_of, formula_of, formula_of-nodes_of, inside_before, parts_of, IsOneFormula}
 use Rattle.polarised_formulas.specs.Nodes.{arity, front_length}
 
@@ -69,7 +68,7 @@ mutual
   length-all_before no_args cs ns = omega arith
   length-all_before (arg t ts) cs ns = omega (arith, length-cells_before t (all_before ts cs) ns, length-all_before ts cs ns)
 
-length-nodes_before : (f : Formula) (ns : List Node) → length (nodes_before f ns) ≡ node_count f + length ns
+pub length-nodes_before : (f : Formula) (ns : List Node) → length (nodes_before f ns) ≡ node_count f + length ns
 length-nodes_before (truth p) ns = omega arith
 length-nodes_before (falsity p) ns = omega arith
 length-nodes_before (atom positive name ts) ns = omega (arith, length-all_before ts [] ns)
@@ -102,7 +101,7 @@ sum-nodes_before (implies a b) ns = simp sum_by-cons (omega (arith, sum-nodes_be
 sum-nodes_before (for_all a) ns = simp sum_by-cons (omega (arith, sum-nodes_before a ns))
 sum-nodes_before (exists a) ns = simp sum_by-cons (omega (arith, sum-nodes_before a ns))
 
-inside_before-append : (cs : List Cell) (ns ms : List Node) → inside_before cs ns ++ ms ≡ inside_before cs (ns ++ ms)
+pub inside_before-append : (cs : List Cell) (ns ms : List Node) → inside_before cs ns ++ ms ≡ inside_before cs (ns ++ ms)
 inside_before-append [] ns ms = refl
 inside_before-append (c ∷ cs) ns ms = rw (inside_before-append cs ns ms)
 

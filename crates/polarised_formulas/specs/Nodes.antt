@@ -1,6 +1,7 @@
 -- What one node says of its formula, and what is read off a list of nodes.
-use Rattle.std.specs.Prelude.{◌≡◌, ℕ, zero, suc, ◌+◌, not, List, [], ◌∷◌}
+use Rattle.std.specs.Prelude.{◌≡◌, ℕ, zero, suc, ◌+◌, Bool, false, not, List, [], ◌∷◌}
 use Rattle.fpc_terms.specs.declared.cell.Cell.TheVariants.{Eigen, Bound, Var, App}
+use Rattle.fpc_terms.specs.Scope.{is_eigen_from}
 use Rattle.polarised_formulas.specs.declared.logic.Polarity.{Polarity}
 use Rattle.polarised_formulas.specs.declared.logic.Polarity.TheVariants.{Positive, Negative}
 use Rattle.polarised_formulas.specs.declared.node.Node.{Node}
@@ -51,6 +52,11 @@ abbrev pub front_length : ℕ → List Node → ℕ
 front_length zero ns = 0
 front_length (suc wanted) [] = 0
 front_length (suc wanted) (n ∷ ns) = suc (front_length (wanted + arity n) ns)
+
+-- the node is an eigenvariable with a number of at least n
+abbrev pub is_eigen_node_from : ℕ → Node → Bool
+is_eigen_node_from n (Inside c) = is_eigen_from n c
+is_eigen_node_from n _ = false
 
 -- the dual of a dual is the formula itself
 abbrev pub DualOfDual : Type 0

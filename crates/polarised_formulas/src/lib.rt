@@ -6,7 +6,9 @@ pub mod formula;
 pub mod list;
 pub mod logic;
 pub mod node;
+pub mod opening;
 pub mod parts;
+pub mod scope;
 pub mod shape;
 pub mod step;
 

@@ -1,6 +1,6 @@
-use Rattle.std.proofs.Common.{◌≡◌, ◌≤◌, arith, length, drop, Some}
-use Rattle.polarised_formulas.specs.Formula.{nodes_of, formula_of, parts_of}
-use Rattle.polarised_formulas.proofs.PartFacts.{HoldsParts, holds_parts}
+use Rattle.std.proofs.Common.{◌≡◌, Some}
+use Rattle.polarised_formulas.specs.Formula.{formula_of, parts_of}
+use Rattle.polarised_formulas.proofs.PartFacts.{holds_parts}
 use Rattle.polarised_formulas.proofs.parts.parts.Goals as goal
 
 pub length_of_first-requires : goal.length_of_first-requires
