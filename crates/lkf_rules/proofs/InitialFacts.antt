@@ -1,10 +1,9 @@
 -- When a literal closes with a stored formula.
-use Rattle.std.proofs.Common.{◌≡◌, ℕ, List, [], refl, arith}
+use Rattle.std.proofs.Common.{◌≡◌, ℕ, [], refl, arith}
 use Rattle.std.proofs.lemmas.Bool.{eq-eqb}
-use Rattle.std.specs.Prelude.{Bool, true, false, ◌&&◌, nat_eq, Option, Some, None}
+use Rattle.std.specs.Prelude.{Bool, true, false, ◌&&◌, nat_eq, Some, None}
 use Rattle.fpc_terms.specs.Term.{Term, Args, eigen, bound, variable, app, no_args, arg, same_term, same_args}
-use Rattle.polarised_formulas.specs.Formula.{Formula, truth, falsity, atom, conj, disj, implies, for_all, exists, dual_of}
-use Rattle.lkf_rules.specs.Sequent.{Levelled}
+use Rattle.polarised_formulas.specs.Formula.{Formula, atom, dual_of}
 use Rattle.lkf_rules.specs.Premises.{closed_with}
 
 mutual

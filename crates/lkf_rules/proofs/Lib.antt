@@ -1,1 +1,2 @@
 pub mod InitialFacts
+pub mod StepFacts

@@ -1,5 +1,5 @@
 -- What the code's values mean: sequents with their levels, premises, and the answer to a step.
-use Rattle.std.specs.Prelude.{◌≡◌, ℕ, List, [], ◌∷◌, Option, Some, None, Result, Ok, Err}
+use Rattle.std.specs.Prelude.{◌≡◌, List, [], ◌∷◌, Option, Some, None, Result, Ok, Err}
 use Rattle.std.specs.Option.{IsSome}
 use Rattle.lkf_rules.specs.declared.sequent.Sequent as code
 use Rattle.lkf_rules.specs.declared.sequent.Sequent.TheVariants.{Up, Down}
@@ -7,7 +7,7 @@ use Rattle.lkf_rules.specs.declared.rules.outcome.Premises.{Premises}
 use Rattle.lkf_rules.specs.declared.rules.outcome.Premises.TheVariants.{None as NoPremise, One, Two}
 use Rattle.lkf_rules.specs.declared.rules.outcome.StepRefusal.{StepRefusal}
 use Rattle.lkf_rules.specs.declared.rules.outcome.StepRefusal.TheVariants.{DoesNotFit, OutOfMemory}
-use Rattle.lkf_rules.specs.Sequent.{Sequent, Levelled, up, down}
+use Rattle.lkf_rules.specs.Sequent.{Levelled, up, down}
 
 -- the sequent with its level
 abbrev pub levelled : code.Sequent → Levelled

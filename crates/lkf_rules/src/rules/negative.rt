@@ -1,30 +1,22 @@
 //! The steps of the negative phase that work on the first formula.
-ghost use Rattle.std.specs.Prelude.{◌≡◌, ℕ, List, [], ◌∷◌, ◌++◌};
+ghost use Rattle.std.specs.Prelude.{◌≡◌, ℕ, ◌<◌, ◌-◌, ◌^◌, List};
 ghost use Rattle.polarised_formulas.specs.Formula.{Formula};
-ghost use Rattle.lkf_rules.specs.Rule.{is_storable};
 ghost use Rattle.lkf_rules.specs.Premises.{worked};
 ghost use Rattle.lkf_rules.specs.Values.{Gives};
 
 use crate::rules::outcome::{Premises, StepRefusal, one_up, two_up, with_first};
+use crate::rules::storable::is_storable;
+use fpc_terms::cell::Cell;
+use fpc_terms::term::TermBuf;
 use polarised_formulas::formula::Formula;
 use polarised_formulas::list::Formulas;
 use polarised_formulas::logic::Polarity;
 use polarised_formulas::node::Node;
+use polarised_formulas::opening::open_with;
 use polarised_formulas::parts::parts;
 use polarised_formulas::shape::outermost;
 use polarised_formulas::step::Step;
 use std::alloc::Global;
-
-/// Whether a formula may be stored: a positive formula or a negative literal.
-fn is_storable(f: &Formula) -> bool
-    ensures { result ≡ is_storable f.now }
-{
-    match outermost(f) {
-        Node::True(p) | Node::False(p) | Node::And(p) | Node::Or(p) => p == Polarity::Positive,
-        Node::Atom { .. } | Node::Exists => true,
-        _ => false,
-    }
-}
 
 /// The step `tt-`: the negative `tt` closes the branch.
 fn true_negative(first: &Formula) -> Result<Premises, StepRefusal>
@@ -99,6 +91,30 @@ fn and_negative(
     }
 }
 
+/// The step `all`: the body of a universal formula is worked on with the eigenvariable that has the level as its number. That is fresh, since the
+/// sequent's own are below the level.
+#[tactic(auto, using(crate::proofs::StepFacts::step_facts))]
+fn every(
+    alloc: Global,
+    level: u64,
+    stored: &Formulas,
+    first: &Formula,
+    rest: &[Formula],
+) -> Result<Premises, StepRefusal>
+    requires { level < 2 ^ 64 - 1 }
+    ensures { Gives result (worked Step.Every level stored.now first.now rest.now) }
+{
+    match outermost(first) {
+        Node::ForAll => {
+            let eigenvariable = TermBuf::from_cells(alloc, &[Cell::Eigen(level)])?;
+            let body = open_with(alloc, first, &eigenvariable)?;
+            let work = with_first(alloc, body, rest)?;
+            one_up(level + 1, stored, work)
+        }
+        _ => Err(StepRefusal::DoesNotFit),
+    }
+}
+
 /// The step `store`: a positive formula or a negative literal goes to the end of the stored formulas.
 fn store(
     alloc: Global,
@@ -127,6 +143,7 @@ pub(crate) fn worked_premises(
     rest: &[Formula],
     step: &Step,
 ) -> Result<Premises, StepRefusal>
+    requires { level < 2 ^ 64 - 1 }
     ensures { Gives result (worked step.now level stored.now first.now rest.now) }
 {
     match step {
@@ -134,6 +151,7 @@ pub(crate) fn worked_premises(
         Step::FalseN => false_negative(alloc, level, stored, first, rest),
         Step::OrN => or_negative(alloc, level, stored, first, rest),
         Step::AndN => and_negative(alloc, level, stored, first, rest),
+        Step::Every => every(alloc, level, stored, first, rest),
         Step::Store => store(alloc, level, stored, first, rest),
         _ => Err(StepRefusal::DoesNotFit),
     }

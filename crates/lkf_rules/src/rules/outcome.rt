@@ -38,7 +38,11 @@ impl From<outside::OutOfMemory> for StepRefusal {
 }
 
 /// The sequent of the negative phase with a copy of the stored formulas.
-fn up_sequent(level: u64, stored: &Formulas, work: Formulas) -> Result<Sequent, outside::OutOfMemory>
+fn up_sequent(
+    level: u64,
+    stored: &Formulas,
+    work: Formulas,
+) -> Result<Sequent, outside::OutOfMemory>
     ensures { IfOk result (λ c. levelled c ≡ (level, up stored.now work)) }
 {
     Ok(Sequent::Up {
@@ -49,7 +53,11 @@ fn up_sequent(level: u64, stored: &Formulas, work: Formulas) -> Result<Sequent, 
 }
 
 /// The sequent of the positive phase with a copy of the stored formulas.
-fn down_sequent(level: u64, stored: &Formulas, focus: Formula) -> Result<Sequent, outside::OutOfMemory>
+fn down_sequent(
+    level: u64,
+    stored: &Formulas,
+    focus: Formula,
+) -> Result<Sequent, outside::OutOfMemory>
     ensures { IfOk result (λ c. levelled c ≡ (level, down stored.now focus)) }
 {
     Ok(Sequent::Down {
@@ -60,12 +68,25 @@ fn down_sequent(level: u64, stored: &Formulas, focus: Formula) -> Result<Sequent
 }
 
 /// The list of a formula and copies of others behind it.
-pub(crate) fn with_first(alloc: Global, first: Formula, rest: &[Formula]) -> Result<Formulas, outside::OutOfMemory>
+pub(crate) fn with_first(
+    alloc: Global,
+    first: Formula,
+    rest: &[Formula],
+) -> Result<Formulas, outside::OutOfMemory>
     ensures { IfOk result (λ l. l ≡ first ∷ rest.now) }
 {
     let mut list = Formulas::new(alloc);
     list.push(first)?;
     list.extended(rest)
+}
+
+/// The list of one formula.
+pub(crate) fn only(alloc: Global, f: Formula) -> Result<Formulas, outside::OutOfMemory>
+    ensures { IfOk result (λ l. l ≡ f ∷ []) }
+{
+    let mut list = Formulas::new(alloc);
+    list.push(f)?;
+    Ok(list)
 }
 
 /// The answer of one premise in the negative phase.
@@ -76,7 +97,12 @@ pub(crate) fn one_up(level: u64, stored: &Formulas, work: Formulas) -> Result<Pr
 }
 
 /// The answer of two premises in the negative phase.
-pub(crate) fn two_up(level: u64, stored: &Formulas, first: Formulas, second: Formulas) -> Result<Premises, StepRefusal>
+pub(crate) fn two_up(
+    level: u64,
+    stored: &Formulas,
+    first: Formulas,
+    second: Formulas,
+) -> Result<Premises, StepRefusal>
     ensures { Gives result (Some ((level, up stored.now first) ∷ (level, up stored.now second) ∷ [])) }
 {
     let first = up_sequent(level, stored, first)?;
@@ -85,14 +111,23 @@ pub(crate) fn two_up(level: u64, stored: &Formulas, first: Formulas, second: For
 }
 
 /// The answer of one premise in the positive phase.
-pub(crate) fn one_down(level: u64, stored: &Formulas, focus: Formula) -> Result<Premises, StepRefusal>
+pub(crate) fn one_down(
+    level: u64,
+    stored: &Formulas,
+    focus: Formula,
+) -> Result<Premises, StepRefusal>
     ensures { Gives result (Some ((level, down stored.now focus) ∷ [])) }
 {
     Ok(Premises::One(down_sequent(level, stored, focus)?))
 }
 
 /// The answer of two premises in the positive phase.
-pub(crate) fn two_down(level: u64, stored: &Formulas, first: Formula, second: Formula) -> Result<Premises, StepRefusal>
+pub(crate) fn two_down(
+    level: u64,
+    stored: &Formulas,
+    first: Formula,
+    second: Formula,
+) -> Result<Premises, StepRefusal>
     ensures { Gives result (Some ((level, down stored.now first) ∷ (level, down stored.now second) ∷ [])) }
 {
     let first = down_sequent(level, stored, first)?;

@@ -1,15 +1,21 @@
 //! The steps of the positive phase, on the formula under focus.
 ghost use Rattle.std.specs.Prelude.{◌≡◌, ℕ, List, slice_get};
+ghost use Rattle.fpc_terms.specs.Term.{IsProperTerm, Always};
+ghost use Rattle.polarised_formulas.specs.declared.logic.Logic.TheVariants.{Lkf};
+ghost use Rattle.polarised_formulas.specs.Step.{IsProperStep};
 ghost use Rattle.polarised_formulas.specs.Formula.{Formula};
 ghost use Rattle.lkf_rules.specs.Premises.{focused, closed_with};
 ghost use Rattle.lkf_rules.specs.Values.{Gives};
 
-use crate::rules::outcome::{Premises, StepRefusal, one_down, one_up, two_down};
+use crate::rules::outcome::{Premises, StepRefusal, one_down, one_up, only, two_down};
+use fpc_terms::scope::has_eigen_at_least;
+use fpc_terms::term::TermBuf;
 use polarised_formulas::dual::is_dual;
 use polarised_formulas::formula::Formula;
 use polarised_formulas::list::Formulas;
 use polarised_formulas::logic::{Polarity, Side};
 use polarised_formulas::node::Node;
+use polarised_formulas::opening::open_with;
 use polarised_formulas::parts::parts;
 use polarised_formulas::shape::{outermost, polarity};
 use polarised_formulas::step::Step;
@@ -26,7 +32,12 @@ fn true_positive(focus: &Formula) -> Result<Premises, StepRefusal>
 }
 
 /// The step `and+`: each part of a positive conjunction comes under focus in a premise of its own.
-fn and_positive(alloc: Global, level: u64, stored: &Formulas, focus: &Formula) -> Result<Premises, StepRefusal>
+fn and_positive(
+    alloc: Global,
+    level: u64,
+    stored: &Formulas,
+    focus: &Formula,
+) -> Result<Premises, StepRefusal>
     ensures { Gives result (focused Step.AndP level stored.now focus.now) }
 {
     match outermost(focus) {
@@ -60,15 +71,43 @@ fn or_positive(
     }
 }
 
+/// The step `some t`: the body of an existential formula stays under focus with a term that is in scope at the level.
+#[tactic(auto, using(crate::proofs::StepFacts::step_facts))]
+fn some(
+    alloc: Global,
+    level: u64,
+    stored: &Formulas,
+    focus: &Formula,
+    term: &TermBuf,
+) -> Result<Premises, StepRefusal>
+    requires { IsProperTerm Always term.now }
+    ensures { Gives result (focused (Step.Exists term.now) level stored.now focus.now) }
+{
+    if has_eigen_at_least(term, level) {
+        return Err(StepRefusal::DoesNotFit);
+    }
+    match outermost(focus) {
+        Node::Exists => {
+            let body = open_with(alloc, focus, term)?;
+            one_down(level, stored, body)
+        }
+        _ => Err(StepRefusal::DoesNotFit),
+    }
+}
+
 /// The step `release`: a negative formula leaves the focus and is worked on.
-fn release(alloc: Global, level: u64, stored: &Formulas, focus: &Formula) -> Result<Premises, StepRefusal>
+fn release(
+    alloc: Global,
+    level: u64,
+    stored: &Formulas,
+    focus: &Formula,
+) -> Result<Premises, StepRefusal>
     ensures { Gives result (focused Step.Release level stored.now focus.now) }
 {
     match polarity(focus) {
         Polarity::Positive => Err(StepRefusal::DoesNotFit),
         Polarity::Negative => {
-            let mut work = Formulas::new(alloc);
-            work.push(focus.copy()?)?;
+            let work = only(alloc, focus.copy()?)?;
             one_up(level, stored, work)
         }
     }
@@ -99,12 +138,14 @@ pub(crate) fn focused_premises(
     focus: &Formula,
     step: &Step,
 ) -> Result<Premises, StepRefusal>
+    requires { IsProperStep Lkf step.now }
     ensures { Gives result (focused step.now level stored.now focus.now) }
 {
     match step {
         Step::TrueP => true_positive(focus),
         Step::AndP => and_positive(alloc, level, stored, focus),
         Step::OrP(side) => or_positive(alloc, level, stored, focus, *side),
+        Step::Exists(term) => some(alloc, level, stored, focus, term),
         Step::Release => release(alloc, level, stored, focus),
         Step::Init(k) => initial(stored, focus, *k),
         _ => Err(StepRefusal::DoesNotFit),
