@@ -47,9 +47,8 @@ pub fn parts(alloc: Global, f: &Formula) -> Result<(Formula, Formula), OutOfMemo
     ensures { IfOk result (λ r. parts_of f.now ≡ Some r) }
 {
     let (_, behind) = f.nodes().split_at(1);
-    let (first, second) = behind.split_at(length_of_first(behind));
-    Ok((
-        Formula::from_nodes(alloc, first)?,
-        Formula::from_nodes(alloc, second)?,
-    ))
+    let (front, back) = behind.split_at(length_of_first(behind));
+    let first = Formula::from_nodes(alloc, front)?;
+    let second = Formula::from_nodes(alloc, back)?;
+    Ok((first, second))
 }

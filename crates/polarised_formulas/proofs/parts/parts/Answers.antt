@@ -23,4 +23,4 @@ returns c =
     let e : parts_of c.args.f.now ≡ Some (formula_of c.split_at-2.result.0.now, formula_of c.split_at-2.result.1.now) =
     rw (c.split_at-2.ensures.front, c.split_at-2.ensures.back, c.length_of_first.ensures, c.split_at.ensures.back, c.nodes.ensures) h.both
     in
-    rw (c.in_ok-from_nodes.ensures, c.in_ok-from_nodes-2.ensures) e
+    rw (c.in_ok-first.ensures, c.in_ok-second.ensures) e
