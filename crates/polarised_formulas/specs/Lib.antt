@@ -1,2 +1,4 @@
 pub mod Formula
+pub mod Nodes
+pub mod Opened
 pub mod Step

@@ -1,0 +1,5 @@
+pub mod NodeFacts
+pub mod DualFacts
+pub mod PartFacts
+pub mod OpenedFacts
+pub mod EigenFacts
