@@ -1,21 +1,10 @@
--- A stack of sequents as a list of sequents with their levels, the topmost first.
+-- Sequents with their levels, as they are stored.
 use Rattle.std.specs.Prelude.{◌≡◌, ℕ, ◌+◌, ◌≤◌, List, [], ◌∷◌, ◌⊎◌, refl}
 use Rattle.std.proofs.Common.{inl, inr}
 use Rattle.std.specs.Coded.{Coded, code_by, coded_list, coded×, coded⊎, coded_ℕ}
 use Rattle.std.specs.List.{AllByRecursion}
 use Rattle.polarised_formulas.specs.Formula.{Formula, formula_code}
-use Rattle.lkf_rules.specs.declared.sequent.Sequent as code
 use Rattle.lkf_rules.specs.Sequent.{Sequent, up, down, Levelled}
-use Rattle.lkf_rules.specs.Values.{levelled}
-
--- the sequents of a stack from its top on, before others
-abbrev pub stacked : List code.Sequent → List Levelled → List Levelled
-stacked [] q = q
-stacked (c ∷ cs) q = stacked cs (levelled c ∷ q)
-
--- the sequents of a stack from its top on
-abbrev pub pending_of : List code.Sequent → List Levelled
-pending_of cs = stacked cs []
 
 abbrev pub Parts : Type 0
 Parts = (List Formula × List Formula) ⊎ (List Formula × Formula)

@@ -2,6 +2,5 @@
 #![tactic(auto)]
 
 mod lines;
-pub mod pending;
-
-pub use pending::Pending;
+mod pending;
+mod stack;
