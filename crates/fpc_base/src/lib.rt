@@ -8,10 +8,8 @@ pub mod refusal;
 pub mod steps;
 pub mod transfer;
 
-
-pub use memory::MemSource;
+pub use memory::{MemFiles, MemSink, MemSource};
 pub use outside::{Failed, Files, OutOfMemory, Sink, Source};
-
 pub use real::{StdFiles, StdSink, StdSource};
 pub use refusal::{Code, ParseRefusal, ReadRefusal, Refusal};
 pub use steps::Steps;

@@ -3,9 +3,8 @@ ghost use Rattle.std.specs.Prelude.{◌≡◌, ℕ, ◌+◌, ◌<◌, ◌≤◌,
 ghost use Rattle.fpc_base.specs.Outside.{missing, Rose, TakesFront, IsAtEnd, IsAtStartOf, Adds};
 
 use crate::outside::{Failed, Files, Sink, Source};
-use std::fs;
 use std::io::{Read, Write};
-use std::rt;
+use std::{fs, rt};
 
 /// Files of a file system. A read with no file open is at the end.
 #[derive(Drop)]
