@@ -369,3 +369,83 @@ impl Sink for MemSink {
         Ok(n)
     }
 }
+
+#[cfg(test)]
+pub(crate) mod tests {
+    use super::*;
+    use std::process::Abort;
+    use std::test::Fail;
+
+    /// Reads at most four bytes at a time, and expects these pieces, or a failure at `None`.
+    pub(crate) fn expect_reads<S: Source>(
+        rt: &impl Abort,
+        source: &mut S,
+        pieces: &[Option<&[u8]>],
+    ) {
+        let mut buf = [0u8; 4];
+        for piece in pieces {
+            match source.read(&mut buf) {
+                Ok(n) => assert!(rt; *piece == Some(&buf[..n])),
+                Err(Failed) => assert!(rt; piece.is_none()),
+            }
+        }
+    }
+
+    #[test]
+    fn source_gives_pieces_and_fails_by_number(rt: HostRuntime) -> Result<(), Fail> {
+        let alloc = rt.alloc();
+        let bytes = Vec::from_slice(alloc, b"hello")?;
+        let mut source = MemSource::new(bytes, vec![in alloc; 1]?, 2);
+        expect_reads(
+            &rt,
+            &mut source,
+            &[Some(b"he"), None, Some(b"ll"), Some(b"o"), Some(b"")],
+        );
+        let bytes = Vec::from_slice(alloc, b"hello")?;
+        let mut source = MemSource::new(bytes, Vec::new(alloc), 100);
+        expect_reads(&rt, &mut source, &[Some(b"hell"), Some(b"o"), Some(b"")]);
+        Ok(())
+    }
+
+    #[test]
+    fn files_open_by_name(rt: HostRuntime) -> Result<(), Fail> {
+        let alloc = rt.alloc();
+        let mut list = Vec::new(alloc);
+        for (name, bytes) in [("a", b"one"), ("b", b"two"), ("a", b"six")] {
+            list.push((
+                String::from_str(alloc, name)?,
+                Vec::from_slice(alloc, bytes)?,
+            ))?;
+        }
+        let mut files = MemFiles::new(list, vec![in alloc; 4]?, 2);
+        expect_reads(&rt, &mut files, &[Some(b"")]);
+        assert_eq!(rt; files.open("a"), Ok(()));
+        expect_reads(&rt, &mut files, &[Some(b"on")]);
+        assert_eq!(rt; files.open("c"), Err(Failed), "there is no such file");
+        assert_eq!(rt;
+            files.open("b"),
+            Err(Failed),
+            "the call with number 4 fails"
+        );
+        expect_reads(&rt, &mut files, &[Some(b"e")]);
+        assert_eq!(rt; files.open("b"), Ok(()));
+        expect_reads(&rt, &mut files, &[Some(b"tw"), Some(b"o"), Some(b"")]);
+        Ok(())
+    }
+
+    #[test]
+    fn sink_takes_pieces_until_it_is_full(rt: HostRuntime) -> Result<(), Fail> {
+        let alloc = rt.alloc();
+        let mut sink = MemSink::new(alloc, 3, vec![in alloc; 1]?, 2)?;
+        for (bytes, taken) in [
+            ("abc", Ok(2)),
+            ("c", Err(Failed)),
+            ("cd", Ok(1)),
+            ("d", Err(Failed)),
+        ] {
+            assert_eq!(rt; sink.write(bytes.as_bytes()), taken, "at {bytes}");
+        }
+        assert_eq!(rt; sink.bytes(), b"abc".as_slice());
+        Ok(())
+    }
+}

@@ -1,12 +1,20 @@
 //! Files, readers and writers of the standard library as sources and sinks.
-ghost use Rattle.std.specs.Prelude.{◌≡◌, ℕ, ◌+◌, ◌<◌, ◌≤◌, ◌⊎◌, OnOk, OnErr, IfOk, take, length};
-ghost use Rattle.fpc_base.specs.Outside.{missing, Rose, TakesFront, IsAtEnd, IsAtStartOf, Adds};
+ghost use Rattle.std.specs.Prelude.{◌≡◌, ◌≤◌};
+ghost use Rattle.fpc_base.specs.Outside.{next_count};
 
 use crate::outside::{Failed, Files, Sink, Source};
 use std::io::{Read, Write};
 use std::{fs, rt};
 
-/// Files of a file system. A read with no file open is at the end.
+fn count_failure(faults: &mut u64) -> Failed
+    ensures after { faults.new ≡ next_count faults.old }
+    ensures never_falls { faults.old ≤ faults.new }
+{
+    *faults = faults.saturating_add(1);
+    Failed
+}
+
+/// The files of a system, opened by path. A read with no file open is at the end.
 #[derive(Drop)]
 pub struct StdFiles<'a, R: rt::Files> {
     rt: &'a R,
@@ -15,6 +23,7 @@ pub struct StdFiles<'a, R: rt::Files> {
 }
 
 impl<'a, R: rt::Files> StdFiles<'a, R> {
+    /// With no file open yet.
     pub fn new(rt: &'a R) -> StdFiles<'a, R> {
         StdFiles {
             rt,
@@ -33,10 +42,7 @@ impl<'a, R: rt::Files> Source for StdFiles<'a, R> {
         };
         match file.read(buf) {
             Ok(n) => Ok(n),
-            Err(_) => {
-                self.faults = self.faults.saturating_add(1);
-                Err(Failed)
-            }
+            Err(_) => Err(count_failure(&mut self.faults)),
         }
     }
 }
@@ -48,10 +54,7 @@ impl<'a, R: rt::Files> Files for StdFiles<'a, R> {
                 self.file = Some(file);
                 Ok(())
             }
-            Err(_) => {
-                self.faults = self.faults.saturating_add(1);
-                Err(Failed)
-            }
+            Err(_) => Err(count_failure(&mut self.faults)),
         }
     }
 }
@@ -75,10 +78,7 @@ impl<R: Read> Source for StdSource<R> {
     fn read(&mut self, buf: &mut [u8]) -> Result<usize, Failed> {
         match self.reader.read(buf) {
             Ok(n) => Ok(n),
-            Err(_) => {
-                self.faults = self.faults.saturating_add(1);
-                Err(Failed)
-            }
+            Err(_) => Err(count_failure(&mut self.faults)),
         }
     }
 }
@@ -102,10 +102,43 @@ impl<W: Write> Sink for StdSink<W> {
     fn write(&mut self, bytes: &[u8]) -> Result<usize, Failed> {
         match self.writer.write(bytes) {
             Ok(n) if n > 0 => Ok(n),
-            _ => {
-                self.faults = self.faults.saturating_add(1);
-                Err(Failed)
-            }
+            _ => Err(count_failure(&mut self.faults)),
         }
+    }
+}
+
+#[cfg(test)]
+mod tests {
+    use super::*;
+    use crate::memory::tests::expect_reads;
+    use std::test::Fail;
+
+    #[test]
+    fn files_are_opened_and_read(rt: HostRuntime) -> Result<(), Fail> {
+        let path = "fpc_base_files_are_opened_and_read.txt";
+        fs::write(&rt, path, "hello")?;
+        let mut files = StdFiles::new(&rt);
+        expect_reads(&rt, &mut files, &[Some(b"")]);
+        assert_eq!(rt; files.open("fpc_base_no_such_file.txt"), Err(Failed));
+        assert_eq!(rt; files.open(path), Ok(()));
+        expect_reads(&rt, &mut files, &[Some(b"hell"), Some(b"o"), Some(b"")]);
+        fs::remove_file(&rt, path)?;
+        Ok(())
+    }
+
+    #[test]
+    fn readers_are_sources(rt: HostRuntime) {
+        let mut source = StdSource::new(b"hello".as_slice());
+        expect_reads(&rt, &mut source, &[Some(b"hell"), Some(b"o"), Some(b"")]);
+    }
+
+    #[test]
+    fn writers_are_sinks(rt: HostRuntime) -> Result<(), Fail> {
+        let mut bytes = [0u8; 3];
+        let mut sink = StdSink::new(bytes.as_mut_slice());
+        assert_eq!(rt; sink.write(b"abcd"), Ok(3));
+        assert_eq!(rt; sink.write(b"d"), Err(Failed), "a full slice takes nothing");
+        assert_eq!(rt; bytes, *b"abc");
+        Ok(())
     }
 }
