@@ -24,7 +24,9 @@ pub struct StdFiles<'a, R: rt::Files> {
 
 impl<'a, R: rt::Files> StdFiles<'a, R> {
     /// With no file open yet.
-    pub fn new(rt: &'a R) -> StdFiles<'a, R> {
+    pub fn new(rt: &'a R) -> StdFiles<'a, R>
+        ensures { result.faults ≡ 0 }
+    {
         StdFiles {
             rt,
             file: None,
@@ -67,7 +69,9 @@ pub struct StdSource<R: Read> {
 }
 
 impl<R: Read> StdSource<R> {
-    pub fn new(reader: R) -> StdSource<R> {
+    pub fn new(reader: R) -> StdSource<R>
+        ensures { result.faults ≡ 0 }
+    {
         StdSource { reader, faults: 0 }
     }
 }
@@ -91,7 +95,9 @@ pub struct StdSink<W: Write> {
 }
 
 impl<W: Write> StdSink<W> {
-    pub fn new(writer: W) -> StdSink<W> {
+    pub fn new(writer: W) -> StdSink<W>
+        ensures { result.faults ≡ 0 }
+    {
         StdSink { writer, faults: 0 }
     }
 }
