@@ -8,7 +8,9 @@ pub mod refusal;
 pub mod steps;
 pub mod transfer;
 
+pub use memory::{MemFiles, MemSink, MemSource};
 pub use outside::{Failed, Files, OutOfMemory, Sink, Source};
+pub use real::{StdFiles, StdSink, StdSource};
 pub use refusal::{Code, ParseRefusal, ReadRefusal, Refusal};
 pub use steps::Steps;
 pub use transfer::{put, read_all};
