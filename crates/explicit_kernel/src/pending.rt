@@ -65,7 +65,10 @@ impl Pending {
         match self.sequents.top() {
             None => Err(StepRefusal::DoesNotFit),
             Some(sequent) => match premises(alloc, sequent, step) {
-                Ok(premises) => Ok(self.replace_first(premises)?),
+                Ok(premises) => match self.replace_first(premises) {
+                    Ok(()) => Ok(()),
+                    Err(_) => Err(StepRefusal::OutOfMemory),
+                },
                 Err(refusal) => Err(refusal),
             },
         }

@@ -38,6 +38,7 @@ impl<T: Drop> Stack<T> {
     pub(crate) fn pop(&mut self) -> Option<T>
         ensures some { IfSome result (λ item. self.old ≡ item ∷ self.new) }
         ensures none { IfNone result (self.old ≡ []) }
+        ensures kept { IfNone result (self.new ≡ self.old) }
     {
         self.items.pop()
     }

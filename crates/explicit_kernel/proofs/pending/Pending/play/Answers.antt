@@ -7,20 +7,17 @@ use Rattle.lkf_rules.specs.Play.{PlaysOne, Fits, start_of}
 use Rattle.lkf_rules.specs.Values.{premise_list}
 use Rattle.explicit_kernel.proofs.pending.Pending.play.Goals as goal
 
--- src/pending.rt:68:36
-pub returns-in_err-replace_first-in-Ok-clause-unfit :
-    goal.returns-in_err-replace_first-in-Ok-clause-unfit
-returns-in_err-replace_first-in-Ok-clause-unfit c = ?
+-- src/pending.rt:59:5
+pub returns-in-Ok-replace_first-clause-fits : goal.returns-in-Ok-replace_first-clause-fits
+returns-in-Ok-replace_first-clause-fits c = ?
 
 -- src/pending.rt:59:5
-pub returns-in_ok-replace_first-in-Ok-clause-fits :
-    goal.returns-in_ok-replace_first-in-Ok-clause-fits
-returns-in_ok-replace_first-in-Ok-clause-fits c = ?
+pub returns-in-Ok-replace_first-clause-unfit : goal.returns-in-Ok-replace_first-clause-unfit
+returns-in-Ok-replace_first-clause-unfit c = ?
 
 -- src/pending.rt:59:5
-pub returns-in_ok-replace_first-in-Ok-clause-unfit :
-    goal.returns-in_ok-replace_first-in-Ok-clause-unfit
-returns-in_ok-replace_first-in-Ok-clause-unfit c = ?
+pub returns-in-Err-replace_first-clause-unfit : goal.returns-in-Err-replace_first-clause-unfit
+returns-in-Err-replace_first-clause-unfit c = ?
 
 -- src/pending.rt:59:5
 pub returns-in-Err-clause-unfit : goal.returns-in-Err-clause-unfit
