@@ -1,2 +1,3 @@
 pub mod Formula
+pub mod Reading
 pub mod Step

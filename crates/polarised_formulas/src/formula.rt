@@ -36,6 +36,14 @@ impl Formula {
         })
     }
 
+    /// The formula of these nodes, which it takes.
+    pub(crate) fn from_vec(nodes: Vec<Node>) -> Formula
+        requires { IsOneFormula nodes.items }
+        ensures { result ≡ formula_of nodes.items }
+    {
+        Formula { nodes }
+    }
+
     /// The nodes in prefix order.
     pub fn nodes(&self) -> &[Node]
         ensures { result.now ≡ nodes_of self.now }
