@@ -1,5 +1,5 @@
 //! Problems: a formula and the logic in which it is to be proved.
-ghost use Rattle.std.specs.Prelude.{◌≡◌, ◌+◌, ◌++◌, ◌∷◌, [], ◌<◌, ◌≤◌, List, length, IfOk, OnOk, IfErr, IfSome};
+ghost use Rattle.std.specs.Prelude.{◌≡◌, ◌+◌, ◌++◌, ◌∷◌, [], ◌<◌, ◌≤◌, length, IfOk, OnOk, IfErr};
 ghost use Rattle.polarised_formulas.specs.Formula.{IsClosed, IsLkf};
 ghost use Rattle.polarised_formulas.specs.declared.logic.Logic.TheVariants.{Lkf};
 ghost use Rattle.polarised_formulas.specs.Reading.{IsTooLarge, IsNotBuilt, Extends, Lacks, lefts};
@@ -28,7 +28,8 @@ pub struct Problem {
 }
 
 /// Reads a problem: `lkf F.`, with or without a line end. So far F is a name, a name behind `~`, or `(F |- F)`, and
-/// all else is refused as not built, at 0. Time and memory are linear in the number of bytes.
+/// all else is refused as not built, at 0. Memory is linear in the number of bytes, and so is the time, but for the
+/// look-up of each name.
 pub fn read_problem(alloc: Global, names: &mut Names, bytes: &[u8]) -> Result<Problem, ParseRefusal>
     ensures logic { IfOk result (λ p. p.logic ≡ Lkf) }
     ensures closed { IfOk result (λ p. IsClosed p.goal) }
