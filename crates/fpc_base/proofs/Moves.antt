@@ -1,5 +1,5 @@
 -- How pieces that move join.
-use Rattle.std.proofs.Common.{◌≡◌, ℕ, ◌+◌, ◌<◌, ◌≤◌, List, [], ◌++◌, length, take, drop, Option, Some, None, refl, append_assoc, arith, length-append, ap, ◌∙◌, sym}
+use Rattle.std.proofs.Common.{◌≡◌, ℕ, ◌+◌, ◌<◌, ◌≤◌, List, [], ◌++◌, length, take, drop, Option, Some, None, refl, append_assoc, arith, length-append, length-take, ap, ◌∙◌, sym}
 use Rattle.std.proofs.Common.{length-drop, append-nil}
 use Rattle.std.proofs.lemmas.List.{take_all, take-append-drop}
 use Rattle.std.proofs.Math.Seq.{take-add}
@@ -46,11 +46,48 @@ pub record IsPut (before now : Option (List ℕ)) (bytes : List ℕ) (done : ℕ
 pub IsPut-start : (a : Option (List ℕ)) (bytes : List ℕ) → IsPut a a bytes 0
 IsPut-start a bytes = record { within = omega arith; added = Adds-nothing a }
 
-pub IsPut-more : (a b c : Option (List ℕ)) (bytes : List ℕ) (done n : ℕ) → IsPut a b bytes done → n ≤ length (drop done bytes) → Adds b (take n (drop done bytes)) c → IsPut a c bytes (done + n)
-IsPut-more a b c bytes done n h le k = record { within = omega (arith, length-drop done bytes); added = rw (take-add done n bytes) (Adds-more a b c (take done bytes) (take n (drop done bytes)) h.added k) }
+pub IsPut-more : (a b c : Option (List ℕ)) (bytes rest : List ℕ) (done n : ℕ) → IsPut a b bytes done → rest ≡ drop done bytes → n ≤ length rest → Adds b (take n rest) c → IsPut a c bytes (done + n)
+IsPut-more a b c bytes rest done n h e le k = record {
+  within = omega (arith, length-drop done bytes, ap length e);
+  added = rw (take-add done n bytes) (Adds-more a b c (take done bytes) (take n (drop done bytes)) h.added (rw e at k));
+}
 
 pub IsPut-all : (a b : Option (List ℕ)) (bytes : List ℕ) (done : ℕ) → IsPut a b bytes done → length bytes ≤ done → Adds a bytes b
 IsPut-all a b bytes done h le = rw (take_all done bytes le) at h.added
 
 pub IsPut-prefix : (a b : Option (List ℕ)) (bytes : List ℕ) (done : ℕ) → IsPut a b bytes done → AddsPrefix a bytes b
 IsPut-prefix a b bytes done h = (take done bytes, (drop done bytes, sym (take-append-drop done bytes)), h.added)
+
+-- the bytes were taken, and they are at most one more than the limit
+pub record IsRead (before now : Option (List ℕ)) (bytes : List ℕ) (count limit : ℕ) : Type 0 where
+  pub taken : TakesFront before bytes now
+  pub counted : length bytes ≡ count
+  pub few : count ≤ limit + 1
+
+pub IsRead-start : (a : Option (List ℕ)) (bytes : List ℕ) (count limit : ℕ) → bytes ≡ [] → count ≡ 0 → IsRead a a bytes count limit
+IsRead-start a bytes count limit e z = record { taken = rw e (TakesFront-nothing a); counted = rw (e, z); few = omega arith }
+
+pub IsRead-more : (a b c : Option (List ℕ)) (bytes piece more : List ℕ) (count m limit : ℕ) → IsRead a b bytes count limit → TakesFront b piece c → more ≡ bytes ++ piece → m ≡ count + length piece → m ≤ limit + 1 → IsRead a c more m limit
+IsRead-more a b c bytes piece more count m limit h t e f le = record {
+  taken = rw e (TakesFront-more a b c bytes piece h.taken t);
+  counted = rw e (omega (arith, length-append bytes piece, h.counted));
+  few = le;
+}
+
+pub IsRead-most : (a b : Option (List ℕ)) (bytes : List ℕ) (count limit : ℕ) → IsRead a b bytes count limit → TakesAtMost (limit + 1) a b
+IsRead-most a b bytes count limit h = (bytes, omega (arith, h.counted, h.few), h.taken)
+
+pub IsRead-large : (a b : Option (List ℕ)) (bytes : List ℕ) (count limit : ℕ) → IsRead a b bytes count limit → limit < count → HasMoreThan limit a
+IsRead-large a b bytes count limit h lt = HasMoreThan-taken limit a b bytes h.taken (omega (arith, h.counted))
+
+-- the end was read
+pub IsRead-end : (a b c : Option (List ℕ)) (bytes : List ℕ) (count limit n : ℕ) (buffer : List ℕ) → IsRead a b bytes count limit → n ≡ 0 → TakesFront b (take n buffer) c → TakesFront a bytes c
+IsRead-end a b c bytes count limit n buffer h e t =
+    let t' : TakesFront b [] c = rw e at t in rw (append-nil bytes) at (TakesFront-more a b c bytes [] h.taken t')
+
+pub IsAtEnd-read : (b c : Option (List ℕ)) (n : ℕ) (buffer : List ℕ) → (n ≡ 0 → IsAtEnd b) → n ≡ 0 → TakesFront b (take n buffer) c → IsAtEnd c
+IsAtEnd-read b c n buffer h e t = let t' : TakesFront b [] c = rw e at t in IsAtEnd-nothing b c (h e) t'
+
+pub TakesFront-most : (a b c : Option (List ℕ)) (bytes : List ℕ) (count limit n : ℕ) (buffer : List ℕ) → IsRead a b bytes count limit → TakesFront b (take n buffer) c → count + n ≤ limit + 1 → TakesAtMost (limit + 1) a c
+TakesFront-most a b c bytes count limit n buffer h t le =
+    (bytes ++ take n buffer, omega (arith, length-append bytes (take n buffer), length-take n buffer, h.counted), TakesFront-more a b c bytes (take n buffer) h.taken t)

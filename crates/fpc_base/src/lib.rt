@@ -8,9 +8,7 @@ pub mod refusal;
 pub mod steps;
 pub mod transfer;
 
-
 pub use outside::{Failed, Files, OutOfMemory, Sink, Source};
-
 pub use refusal::{Code, ParseRefusal, ReadRefusal, Refusal};
 pub use steps::Steps;
 pub use transfer::{put, read_all};

@@ -28,6 +28,45 @@ fn read_piece<S: Source>(src: &mut S, buffer: &mut [u8], most: usize) -> Result<
     src.read(front)
 }
 
+/// Reads the source to its end, if it holds at most `limit` bytes, by way of a buffer.
+fn read_through<S: Source>(
+    alloc: Global,
+    src: &mut S,
+    buffer: &mut [u8],
+    limit: usize,
+) -> Result<Vec<u8>, ReadRefusal>
+    requires { length buffer.old ≡ PIECE }
+    ensures never_falls { S.faults src.old ≤ S.faults src.new }
+    ensures ok_count { OnOk result (S.faults src.new ≡ S.faults src.old) }
+    ensures all { IfOk result (λ v. TakesFront (S.left src.old) v.items (S.left src.new)) }
+    ensures end { OnOk result (IsAtEnd (S.left src.new)) }
+    ensures size { IfOk result (λ v. vec_len v ≤ limit) }
+
+    ensures too_large { IsErrOf result ReadRefusal.TooLarge → HasMoreThan limit (S.left src.old) }
+    ensures too_large_count { IsErrOf result ReadRefusal.TooLarge → S.faults src.new ≡ S.faults src.old }
+    ensures failed { IsErrOf result ReadRefusal.Failed → Rose (S.faults src.old) (S.faults src.new) }
+    ensures taken { OnErr result (TakesAtMost (limit + 1) (S.left src.old) (S.left src.new)) }
+
+    ensures content { S.content src.new ≡ S.content src.old }
+    ensures calls { S.calls src.new ≤ S.calls src.old + limit + 1 }
+{
+    let mut bytes = Vec::new(alloc);
+    while bytes.len() <= limit {
+        let most = (limit - bytes.len()).min(PIECE - 1) + 1;
+        match read_piece(src, buffer, most) {
+            Ok(0) => return Ok(bytes),
+            Ok(n) => {
+                let (piece, _) = buffer.split_at(n);
+                if bytes.extend_from_slice(piece).is_err() {
+                    return Err(ReadRefusal::OutOfMemory);
+                }
+            }
+            Err(Failed) => return Err(ReadRefusal::Failed),
+        }
+    }
+    Err(ReadRefusal::TooLarge)
+}
+
 /// Reads the source to its end, if it holds at most `limit` bytes. Memory is a small multiple of the bytes read.
 pub fn read_all<S: Source>(alloc: Global, src: &mut S, limit: usize) -> Result<Vec<u8>, ReadRefusal>
     ensures never_falls { S.faults src.old ≤ S.faults src.new }
@@ -44,24 +83,10 @@ pub fn read_all<S: Source>(alloc: Global, src: &mut S, limit: usize) -> Result<V
     ensures content { S.content src.new ≡ S.content src.old }
     ensures calls { S.calls src.new ≤ S.calls src.old + limit + 1 }
 {
-    let mut buffer = match vec![in alloc; 0u8; PIECE] {
-        Ok(buffer) => buffer,
-        Err(_) => return Err(ReadRefusal::OutOfMemory),
-    };
-    let mut bytes = Vec::new(alloc);
-    while bytes.len() <= limit {
-        let most = (limit - bytes.len()).min(PIECE - 1) + 1;
-        match read_piece(src, &mut buffer, most) {
-            Ok(0) => return Ok(bytes),
-            Ok(n) => {
-                if bytes.extend_from_slice(&buffer[..n]).is_err() {
-                    return Err(ReadRefusal::OutOfMemory);
-                }
-            }
-            Err(Failed) => return Err(ReadRefusal::Failed),
-        }
+    match vec![in alloc; 0u8; PIECE] {
+        Ok(mut buffer) => read_through(alloc, src, buffer.as_mut_slice(), limit),
+        Err(_) => Err(ReadRefusal::OutOfMemory),
     }
-    Err(ReadRefusal::TooLarge)
 }
 
 /// Writes all of the bytes. It takes no memory.
@@ -75,7 +100,8 @@ pub fn put<S: Sink>(sink: &mut S, bytes: &[u8]) -> Result<(), Failed>
 {
     let mut done = 0;
     while done < bytes.len() {
-        match sink.write(&bytes[done..]) {
+        let (_, rest) = bytes.split_at(done);
+        match sink.write(rest) {
             Ok(n) => done += n,
             Err(Failed) => return Err(Failed),
         }

@@ -1,2 +1,3 @@
 pub mod Interning
 pub mod TermFacts
+pub mod ScopeFacts

@@ -5,6 +5,7 @@ pub mod cell;
 pub mod list;
 pub mod name;
 pub mod names;
+pub mod scope;
 pub mod term;
 
 pub use cell::Cell;

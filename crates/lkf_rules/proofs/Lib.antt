@@ -5,3 +5,5 @@ pub mod Play
 pub mod Preorder
 pub mod Spelling
 pub mod Exchange
+pub mod InitialFacts
+pub mod StepFacts

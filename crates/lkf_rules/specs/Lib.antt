@@ -5,3 +5,4 @@ pub mod Premises
 pub mod Certificate
 pub mod Play
 pub mod Laws
+pub mod Values

@@ -2,6 +2,8 @@
 #![tactic(auto)]
 
 pub mod laws;
+pub mod rules;
 pub mod sequent;
 
+pub use rules::outcome::{Premises, StepRefusal};
 pub use sequent::Sequent;

@@ -1,1 +1,6 @@
 pub mod Reading
+pub mod NodeFacts
+pub mod DualFacts
+pub mod PartFacts
+pub mod OpenedFacts
+pub mod EigenFacts

@@ -176,6 +176,12 @@ open_at k t (implies a b) = implies (open_at k t a) (open_at k t b)
 open_at k t (for_all a) = for_all (open_at (suc k) t a)
 open_at k t (exists a) = exists (open_at (suc k) t a)
 
+-- the body of a quantified formula with the term in the place of the index that the quantifier binds
+abbrev pub opened : Term → Formula → Option Formula
+opened t (for_all a) = Some (open_at 0 t a)
+opened t (exists a) = Some (open_at 0 t a)
+opened t _ = None
+
 -- some eigenvariable of the formula has a number of at least n
 abbrev pub has_eigen_in : ℕ → Formula → Bool
 has_eigen_in n (truth p) = false

@@ -36,8 +36,8 @@ impl Formula {
         })
     }
 
-    /// The formula of these nodes, which it takes.
-    pub(crate) fn from_vec(nodes: Vec<Node>) -> Formula
+    /// The formula of these nodes. Constant time.
+    pub(crate) fn from_node_list(nodes: Vec<Node>) -> Formula
         requires { IsOneFormula nodes.items }
         ensures { result ≡ formula_of nodes.items }
     {
@@ -49,5 +49,12 @@ impl Formula {
         ensures { result.now ≡ nodes_of self.now }
     {
         self.nodes.as_slice()
+    }
+
+    /// A copy of the formula. Time and memory are linear in its size.
+    pub fn copy(&self) -> Result<Formula, OutOfMemory>
+        ensures { IfOk result (λ f. f ≡ self.now) }
+    {
+        Ok(self.clone()?)
     }
 }

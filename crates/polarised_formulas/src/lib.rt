@@ -1,11 +1,16 @@
 //! Formulas with polarity in both logics, the steps of proofs, and problems.
 #![tactic(auto)]
 
+pub mod dual;
 pub mod formula;
 pub mod list;
 pub mod logic;
 pub mod node;
+pub mod opening;
+pub mod parts;
 pub mod problem;
+pub mod scope;
+pub mod shape;
 pub mod step;
 
 pub use formula::Formula;

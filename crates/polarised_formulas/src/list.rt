@@ -1,5 +1,5 @@
 //! Lists of formulas.
-ghost use Rattle.std.specs.Prelude.{◌≡◌, ◌<◌, ◌++◌, ◌∷◌, [], OnOk, OnErr, Some, length, slice_get};
+ghost use Rattle.std.specs.Prelude.{◌≡◌, ◌<◌, ◌++◌, ◌∷◌, [], OnOk, OnErr, IfOk, Some, length, slice_get};
 
 use crate::formula::Formula;
 use fpc_base::outside::OutOfMemory;
@@ -63,5 +63,23 @@ impl Formulas {
         ensures { result.now ≡ self.now }
     {
         self.items.as_slice()
+    }
+
+    /// A copy of the list. Time and memory are linear in its formulas' sizes.
+    pub fn copy(&self) -> Result<Formulas, OutOfMemory>
+        ensures { IfOk result (λ l. l ≡ self.now) }
+    {
+        Ok(self.clone()?)
+    }
+
+    /// The list with copies of the items behind it. Time and memory are linear in the items' sizes.
+    pub fn extended(self, items: &[Formula]) -> Result<Formulas, OutOfMemory>
+        ensures { IfOk result (λ l. l ≡ self ++ items.now) }
+    {
+        let mut list = self;
+        for item in items {
+            list.push(item.copy()?)?;
+        }
+        Ok(list)
     }
 }

@@ -201,7 +201,7 @@ impl Reading {
         ensures closed { IsClosed result }
         ensures lkf { IsLkf result }
     {
-        Formula::from_vec(self.nodes)
+        Formula::from_node_list(self.nodes)
     }
 }
 

@@ -1,0 +1,42 @@
+-- A stack of sequents as a list of sequents with their levels, the topmost first.
+use Rattle.std.specs.Prelude.{◌≡◌, ℕ, ◌+◌, ◌≤◌, List, [], ◌∷◌, ◌⊎◌, refl}
+use Rattle.std.proofs.Common.{inl, inr}
+use Rattle.std.specs.Coded.{Coded, code_by, coded_list, coded×, coded⊎, coded_ℕ}
+use Rattle.std.specs.List.{AllByRecursion}
+use Rattle.polarised_formulas.specs.Formula.{Formula, formula_code}
+use Rattle.lkf_rules.specs.declared.sequent.Sequent as code
+use Rattle.lkf_rules.specs.Sequent.{Sequent, up, down, Levelled}
+use Rattle.lkf_rules.specs.Values.{levelled}
+
+-- the sequents of a stack from its top on, before others
+abbrev pub stacked : List code.Sequent → List Levelled → List Levelled
+stacked [] q = q
+stacked (c ∷ cs) q = stacked cs (levelled c ∷ q)
+
+-- the sequents of a stack from its top on
+abbrev pub pending_of : List code.Sequent → List Levelled
+pending_of cs = stacked cs []
+
+abbrev pub Parts : Type 0
+Parts = (List Formula × List Formula) ⊎ (List Formula × Formula)
+
+abbrev pub parts_of_sequent : Sequent → Parts
+parts_of_sequent (up s g) = inl (s, g)
+parts_of_sequent (down s f) = inr (s, f)
+
+abbrev pub sequent_of_parts : Parts → Sequent
+sequent_of_parts (inl p) = up p.0 p.1
+sequent_of_parts (inr p) = down p.0 p.1
+
+pub sequent_of_parts-parts_of_sequent : (c : Sequent) → sequent_of_parts (parts_of_sequent c) ≡ c
+sequent_of_parts-parts_of_sequent (up s g) = refl
+sequent_of_parts-parts_of_sequent (down s f) = refl
+
+-- sequents with their levels are stored as their parts
+abbrev pub levelled_code : Coded Levelled
+levelled_code =
+    coded× coded_ℕ (code_by Parts (coded⊎ (coded× (coded_list formula_code) (coded_list formula_code)) (coded× (coded_list formula_code) formula_code)) parts_of_sequent sequent_of_parts sequent_of_parts-parts_of_sequent)
+
+-- the levels are at most n
+abbrev pub AreLow : ℕ → List Levelled → Type 0
+AreLow n q = AllByRecursion (λ p. p.0 ≤ n) q

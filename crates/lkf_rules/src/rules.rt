@@ -1,0 +1,71 @@
+//! The rules of LKF: the premises that a step names at a sequent.
+ghost use Rattle.std.specs.Prelude.{◌≡◌, ◌↔◌, ◌<◌, ◌-◌, ◌^◌, Some, None, IfOk, Err};
+ghost use Rattle.polarised_formulas.specs.declared.logic.Logic.TheVariants.{Lkf};
+ghost use Rattle.polarised_formulas.specs.Step.{IsProperStep};
+ghost use Rattle.lkf_rules.specs.Sequent.{root_of};
+ghost use Rattle.lkf_rules.specs.Premises.{premises_of};
+ghost use Rattle.lkf_rules.specs.Values.{levelled, premise_list, Gives};
+
+mod choice;
+mod negative;
+pub mod outcome;
+mod positive;
+pub mod storable;
+
+use crate::sequent::Sequent;
+use choice::chosen_premises;
+use fpc_base::outside::OutOfMemory;
+use negative::worked_premises;
+use outcome::{Premises, StepRefusal, only};
+use polarised_formulas::formula::Formula;
+use polarised_formulas::list::Formulas;
+use polarised_formulas::step::Step;
+use positive::focused_premises;
+use std::alloc::Global;
+
+/// The root sequent of a goal, at level 0: nothing is stored, and the goal is worked on. Time and memory are linear in the goal's size.
+pub fn root(alloc: Global, goal: &Formula) -> Result<Sequent, OutOfMemory>
+    ensures { IfOk result (λ c. levelled c ≡ (0, root_of goal.now)) }
+{
+    Ok(Sequent::Up {
+        level: 0,
+        stored: Formulas::new(alloc),
+        work: only(alloc, goal.copy()?)?,
+    })
+}
+
+/// The answer to a step at a sequent, by the phase and by what is left to work on.
+fn answer_to(alloc: Global, sequent: &Sequent, step: &Step) -> Result<Premises, StepRefusal>
+    requires level { (levelled sequent.now).0 < 2 ^ 64 - 1 }
+    requires step { IsProperStep Lkf step.now }
+    ensures { Gives result (premises_of step.now (levelled sequent.now).0 (levelled sequent.now).1) }
+{
+    match sequent {
+        Sequent::Up {
+            level,
+            stored,
+            work,
+        } => match work.items() {
+            [first, rest @ ..] => worked_premises(alloc, *level, stored, first, rest, step),
+            [] => chosen_premises(alloc, *level, stored, step),
+        },
+        Sequent::Down {
+            level,
+            stored,
+            focus,
+        } => focused_premises(alloc, *level, stored, focus, step),
+    }
+}
+
+/// The premises of the instance of a rule of LKF that a step names at a sequent, each with its level; the rules are those of Liang and Miller.
+/// A place counts the stored formulas from 0, the eigenvariable of `all` is the sequent's level, and the term of `some` and the formula of `cut` are
+/// in scope at that level. Time and memory are linear in the sizes of the sequent, the step and the premises.
+#[tactic(auto, using(crate::proofs::StepFacts::answer_facts))]
+pub fn premises(alloc: Global, sequent: &Sequent, step: &Step) -> Result<Premises, StepRefusal>
+    requires level { (levelled sequent.now).0 < 2 ^ 64 - 1 }
+    requires step { IsProperStep Lkf step.now }
+    ensures fits { IfOk result (λ p. premises_of step.now (levelled sequent.now).0 (levelled sequent.now).1 ≡ Some (premise_list p)) }
+    ensures unfit { result ≡ Err StepRefusal.DoesNotFit ↔ premises_of step.now (levelled sequent.now).0 (levelled sequent.now).1 ≡ None }
+{
+    answer_to(alloc, sequent, step)
+}
