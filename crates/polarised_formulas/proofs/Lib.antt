@@ -1,3 +1,4 @@
+pub mod Reading
 pub mod NodeFacts
 pub mod DualFacts
 pub mod PartFacts

@@ -1,4 +1,5 @@
 pub mod Formula
+pub mod Reading
 pub mod Nodes
 pub mod Opened
 pub mod Step
