@@ -1,6 +1,12 @@
 -- How far the check of an explicit certificate has come.
+use Rattle.std.specs.Prelude.{◌≡◌, ◌≢◌, ◌↔◌, ◌⊎◌, ℕ, ◌+◌, ◌≤◌, ◌<◌, List, [], length, Option, Some, None, Bool, true}
 use Rattle.polarised_formulas.specs.declared.logic.Logic.TheVariants.{Lkf}
+use Rattle.polarised_formulas.specs.declared.step.Step as code
+use Rattle.polarised_formulas.specs.Formula.{Formula}
 use Rattle.polarised_formulas.specs.Step.{IsProperStep}
+use Rattle.lkf_rules.specs.Sequent.{Levelled}
+use Rattle.lkf_rules.specs.Play.{Plays, PlaysOne, start_of}
+use Rattle.lkf_rules.specs.Certificate.{IsSpelling}
 use Rattle.explicit_kernel.specs.declared.lines.Line as line
 use Rattle.explicit_kernel.specs.declared.lines.Line.TheVariants.{Step, End}
 
@@ -8,3 +14,19 @@ use Rattle.explicit_kernel.specs.declared.lines.Line.TheVariants.{Step, End}
 abbrev pub IsProperLine : line.Line → Type 0
 IsProperLine (Step step) = IsProperStep Lkf step
 IsProperLine End = Unit {0}
+
+-- some steps play n sequents further, from the first list to the second
+abbrev pub Advances : List Levelled → ℕ → List Levelled → ℕ → Type 0
+Advances q n r m = (steps : List code.Step) × Plays q steps r × (n + length steps ≡ m)
+
+-- a step does not fit the list
+abbrev pub Misfits : List Levelled → Type 0
+Misfits q = (step : code.Step) × IsProperStep Lkf step × ((r : List Levelled) → PlaysOne q step r → ⊥)
+
+-- the goal has a spelling of so many steps
+abbrev pub HasSpelling : Formula → ℕ → Type 0
+HasSpelling f n = (steps : List code.Step) × IsSpelling f steps × (length steps ≡ n)
+
+-- Steps play the goal's root up to the one with this number, counted from 1, and there a step does not fit or is missing.
+abbrev pub StopsAt : Formula → ℕ → Type 0
+StopsAt f k = (steps : List code.Step) × (q : List Levelled) × Plays (start_of f) steps q × (length steps + 1 ≡ k) × (Misfits q ⊎ (q ≢ []))

@@ -3,4 +3,8 @@
 
 mod lines;
 mod pending;
+mod play;
 mod stack;
+pub mod verify;
+
+pub use verify::{Verdict, VerifyRefusal};

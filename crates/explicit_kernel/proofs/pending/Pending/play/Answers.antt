@@ -1,24 +1,26 @@
-use Rattle.std.proofs.Common.{rules, ◌≡◌, ◌↔◌, ◌++◌, ◌<◌, drop, ◌-◌, ◌^◌, [], List, IsTrue, OnOk, IfOk, Err, ℕ, ◌+◌, ◌*◌, ◌≤◌, length, ◌/◌, ◌%◌, Bool, true, false, nat_eq, nat_lt, ◌∷◌, slice_index_or, slice_set, bit_and, bit_or, w8, w32, w64, Bor, MutBor}
-use Rattle.std.specs.List.{AllByRecursion}
-use Rattle.polarised_formulas.specs.declared.logic.Logic.TheVariants.{Lkf}
-use Rattle.polarised_formulas.specs.Step.{IsProperStep}
-use Rattle.lkf_rules.specs.Sequent.{Levelled}
-use Rattle.lkf_rules.specs.Play.{PlaysOne, Fits, start_of}
+use Rattle.std.proofs.Common.{◌≡◌, Ok, Err, ap}
+use Rattle.lkf_rules.specs.declared.rules.outcome.StepRefusal.TheVariants.{DoesNotFit}
 use Rattle.lkf_rules.specs.Values.{premise_list}
+use Rattle.explicit_kernel.proofs.Fitting.{IsNext, IsNext-top, fitting, unfitting, names_no_premises, can_fit}
 use Rattle.explicit_kernel.proofs.pending.Pending.play.Goals as goal
 
--- src/pending.rt:59:5
-pub returns-in-Ok-replace_first-clause-fits : goal.returns-in-Ok-replace_first-clause-fits
-returns-in-Ok-replace_first-clause-fits c = ?
-
--- src/pending.rt:59:5
-pub returns-in-Ok-replace_first-clause-unfit : goal.returns-in-Ok-replace_first-clause-unfit
-returns-in-Ok-replace_first-clause-unfit c = ?
-
--- src/pending.rt:59:5
 pub returns-in-Err-replace_first-clause-unfit : goal.returns-in-Err-replace_first-clause-unfit
-returns-in-Err-replace_first-clause-unfit c = ?
+returns-in-Err-replace_first-clause-unfit c =
+    let next : IsNext c.args.self.now c.in-Some.sequent.now = IsNext-top c.self.inside.sequents c.in-Some.sequent.now c.args.self.now c.in-Some.ensures.some c.self.view_is in
+    (λ e. cc, λ h. absurd (can_fit c.args.self.now c.in-Some.sequent.now c.args.step.now (premise_list c.in-Ok.premises) next c.requires.step c.in-Ok.ensures.fits h))
 
--- src/pending.rt:59:5
+pub returns-in-Ok-replace_first-clause-fits : goal.returns-in-Ok-replace_first-clause-fits
+returns-in-Ok-replace_first-clause-fits c =
+    let next : IsNext c.args.self.now c.in-Some.sequent.now = IsNext-top c.self.inside.sequents c.in-Some.sequent.now c.args.self.now c.in-Some.ensures.some c.self.view_is in
+    fitting c.args.self.now c.replace_first.new.self c.in-Some.sequent.now c.args.step.now (premise_list c.in-Ok.premises) next c.requires.step c.in-Ok.ensures.fits c.in-Ok-replace_first.ensures
+
+pub returns-in-Ok-replace_first-clause-unfit : goal.returns-in-Ok-replace_first-clause-unfit
+returns-in-Ok-replace_first-clause-unfit c =
+    let next : IsNext c.args.self.now c.in-Some.sequent.now = IsNext-top c.self.inside.sequents c.in-Some.sequent.now c.args.self.now c.in-Some.ensures.some c.self.view_is in
+    (λ e. cc, λ h. absurd (can_fit c.args.self.now c.in-Some.sequent.now c.args.step.now (premise_list c.in-Ok.premises) next c.requires.step c.in-Ok.ensures.fits h))
+
 pub returns-in-Err-clause-unfit : goal.returns-in-Err-clause-unfit
-returns-in-Err-clause-unfit c = ?
+returns-in-Err-clause-unfit c =
+    let next : IsNext c.args.self.now c.in-Some.sequent.now = IsNext-top c.self.inside.sequents c.in-Some.sequent.now c.args.self.now c.in-Some.ensures.some c.self.view_is in
+    (λ e. let h : c.in-Err.refusal ≡ DoesNotFit = cc in unfitting c.args.self.now c.in-Some.sequent.now c.args.step.now next (c.in-Err.ensures.unfit.0 (ap Err h)),
+    λ g. let h = c.in-Err.ensures.unfit.1 (names_no_premises c.args.self.now c.in-Some.sequent.now c.args.step.now next c.requires.step g) in cc)

@@ -1,0 +1,43 @@
+-- A certificate that is being checked.
+use Rattle.std.specs.Prelude.{◌≡◌, ◌≢◌, ◌⊎◌, ℕ, ◌+◌, ◌≤◌, [], List, Result, Ok, Err}
+use Rattle.polarised_formulas.specs.Formula.{Formula}
+use Rattle.lkf_rules.specs.Sequent.{Levelled}
+use Rattle.lkf_rules.specs.Derivation.{IsDerivable}
+use Rattle.explicit_kernel.specs.Pending.{AreLow}
+use Rattle.explicit_kernel.specs.Progress.{Advances, Misfits, HasSpelling, StopsAt}
+use Rattle.explicit_kernel.specs.declared.verify.Check as check
+use Rattle.explicit_kernel.specs.declared.verify.Part.{Part}
+use Rattle.explicit_kernel.specs.declared.verify.Part.TheVariants.{Header, Steps, Nothing}
+use Rattle.explicit_kernel.specs.declared.verify.Stop.{Stop}
+use Rattle.explicit_kernel.specs.declared.verify.Stop.TheVariants.{Rejected, Refused, OutOfMemory}
+
+-- where nothing may come any more, nothing is left to derive
+abbrev pub IsClosedBy : Part → List Levelled → Type 0
+IsClosedBy Header q = Unit {0}
+IsClosedBy Steps q = Unit {0}
+IsClosedBy Nothing q = q ≡ []
+
+-- the check goes on: its counts are within their bounds
+pub record IsUnderWay (c : check.Check) : Type 0 where
+  pub low : AreLow c.play.fitted c.play.pending
+  pub few : c.play.fitted ≤ c.at
+  pub within : c.at ≤ 67108864
+  pub line : c.line_at ≤ c.at
+  pub closed : IsClosedBy c.part c.play.pending
+
+-- a tick for each step that fitted
+abbrev pub HasTicks : check.Check → check.Check → ℕ → ℕ → Type 0
+HasTicks old new before now = now + old.play.fitted ≡ before + new.play.fitted
+
+-- the check stopped: a rejection tells the next step, at which what was pending can't be played on as it should; a refusal's place is within the most bytes that there may be
+abbrev pub IsStopped : check.Check → check.Check → Stop → Type 0
+IsStopped old new (Rejected k) = (old.play.fitted + 1 ≡ k) × (new.play.fitted ≡ old.play.fitted) × (Misfits old.play.pending ⊎ (old.play.pending ≢ []))
+IsStopped old new (Refused r) = r.at ≤ 67108864
+IsStopped old new OutOfMemory = Unit {0}
+
+-- the check stopped somewhere behind
+abbrev pub IsStoppedFrom : check.Check → check.Check → Stop → Type 0
+IsStoppedFrom old new (Rejected k) =
+    (new.play.fitted + 1 ≡ k) × ((q : List Levelled) × (n : ℕ) × Advances old.play.pending old.play.fitted q n × (n + 1 ≡ k) × (Misfits q ⊎ (q ≢ [])))
+IsStoppedFrom old new (Refused r) = r.at ≤ 67108864
+IsStoppedFrom old new OutOfMemory = Unit {0}

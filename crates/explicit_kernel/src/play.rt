@@ -1,0 +1,60 @@
+//! The steps of a certificate as they come, played against a goal.
+ghost use Rattle.std.specs.Prelude.{◌≡◌, ◌+◌, ◌-◌, ◌^◌, ◌<◌, ◌≤◌, ◌≢◌, [], OnOk, OnErr, IfOk, Err};
+ghost use Rattle.lkf_rules.specs.Play.{start_of};
+ghost use Rattle.polarised_formulas.specs.declared.logic.Logic.TheVariants.{Lkf};
+ghost use Rattle.polarised_formulas.specs.Step.{IsProperStep};
+ghost use Rattle.explicit_kernel.specs.Pending.{AreLow};
+ghost use Rattle.explicit_kernel.specs.Progress.{Advances, Misfits};
+
+use crate::pending::Pending;
+use fpc_base::outside::OutOfMemory;
+use fpc_base::steps::Steps;
+use lkf_rules::rules::outcome::StepRefusal;
+use polarised_formulas::formula::Formula;
+use polarised_formulas::step::Step;
+use std::alloc::Global;
+use std::sync::ledger::Ledger;
+
+/// The sequents still to be derived, and how many steps have fitted so far.
+#[derive(Drop)]
+pub(crate) struct Play {
+    pub(crate) pending: Pending,
+    pub(crate) fitted: u64,
+}
+
+impl Play {
+    /// Nothing is played yet.
+    pub(crate) fn start(alloc: Global, goal: &Formula) -> Result<Play, OutOfMemory>
+        ensures pending { IfOk result (λ p. p.pending ≡ start_of goal.now) }
+        ensures fitted { IfOk result (λ p. p.fitted ≡ 0) }
+        ensures low { IfOk result (λ p. AreLow p.fitted p.pending) }
+    {
+        Ok(Play {
+            pending: Pending::start(alloc, goal)?,
+            fitted: 0,
+        })
+    }
+
+    /// Plays one more step, and counts it where it fits.
+    pub(crate) fn advance<L: Ledger>(&mut self, alloc: Global, step: &Step, steps: &mut Steps<L>) -> Result<(), StepRefusal>
+        requires low { AreLow self.old.fitted self.old.pending }
+        requires few { self.old.fitted < 2 ^ 32 }
+        requires step { IsProperStep Lkf step.now }
+        ensures fits { OnOk result (Advances self.old.pending self.old.fitted self.new.pending self.new.fitted) }
+        ensures low { OnOk result (AreLow self.new.fitted self.new.pending) }
+        ensures one { OnOk result (self.new.fitted ≡ self.old.fitted + 1) }
+        ensures ticks { OnOk result (steps.new ≡ steps.old + 1) }
+        ensures unfit { result ≡ Err StepRefusal.DoesNotFit → Misfits self.old.pending }
+        ensures none { OnErr result (self.new.fitted ≡ self.old.fitted) }
+        ensures no_tick { OnErr result (steps.new ≡ steps.old) }
+    {
+        match self.pending.play(alloc, step) {
+            Ok(()) => {
+                self.fitted += 1;
+                steps.tick();
+                Ok(())
+            }
+            Err(refusal) => Err(refusal),
+        }
+    }
+}
