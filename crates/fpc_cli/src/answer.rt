@@ -3,6 +3,7 @@ ghost use Rattle.std.specs.Prelude.{◌≡◌, Some, IfOk};
 ghost use Rattle.std.specs.String.{string_bytes};
 ghost use Rattle.fpc_cli.specs.Answer.{answer_text, role_name, status_of};
 
+use crate::status::Status;
 use fpc_base::{OutOfMemory, Refusal};
 use std::alloc::Global;
 use std::fmt;
@@ -36,9 +37,9 @@ impl fmt::Display for Role {
 /// What the program answers.
 #[derive(Clone, Copy, PartialEq, Eq, Debug)]
 pub enum Answer {
-    /// The certificate was played to its end in so many steps.
+    /// The certificate was played to its end, in so many steps.
     Accepted { steps: u64 },
-    /// The step of that number does not fit, or the certificate ends there too early.
+    /// The certificate is wrong at the step of that number.
     Rejected { at: u64 },
     /// A file was not read.
     Refused { role: Role, refusal: Refusal },
@@ -54,17 +55,18 @@ pub enum Answer {
 pub const WANT_OF_MEMORY: &str = "want of memory\n";
 
 /// The exit status of an answer.
-pub fn status(answer: &Answer) -> u8
-    ensures { result ≡ status_of answer.now }
+pub fn status(answer: &Answer) -> Status
+    ensures { result.code ≡ status_of answer.now }
 {
-    match answer {
+    let code = match answer {
         Answer::Accepted { .. } => 0,
         Answer::Rejected { .. } => 1,
         Answer::Refused { .. } => 3,
         Answer::Usage => 4,
         Answer::ReadFault => 5,
         Answer::OutOfMemory => 8,
-    }
+    };
+    Status { code }
 }
 
 /// The line of an answer.
@@ -89,4 +91,69 @@ fn refused_text(alloc: Global, role: Role, refusal: &Refusal) -> Result<String, 
     let number = code.number();
     let at = refusal.at;
     Ok(format!(in alloc; "refused {role} {number} {code} at {at}\n")?)
+}
+
+#[cfg(test)]
+mod tests {
+    use super::*;
+    use fpc_base::Code;
+    use std::test::Fail;
+
+    fn refused(role: Role, code: Code) -> Answer {
+        let refusal = Refusal { code, at: 34 };
+        Answer::Refused { role, refusal }
+    }
+
+    #[test]
+    fn answers_have_their_lines_and_statuses(rt: HostRuntime) -> Result<(), Fail> {
+        let table = [
+            (Answer::Accepted { steps: 0 }, "accepted, 0 steps\n", 0),
+            (Answer::Accepted { steps: 120 }, "accepted, 120 steps\n", 0),
+            (
+                Answer::Rejected { at: u64::MAX },
+                "rejected at step 18446744073709551615\n",
+                1,
+            ),
+            (
+                refused(Role::Explicit, Code::Unexpected),
+                "refused explicit 2 Unexpected at 34\n",
+                3,
+            ),
+            (
+                refused(Role::Problem, Code::NotBuilt),
+                "refused problem 0 NotBuilt at 34\n",
+                3,
+            ),
+            (
+                refused(Role::Definition, Code::BadByte),
+                "refused definition 1 BadByte at 34\n",
+                3,
+            ),
+            (
+                refused(Role::Certificate, Code::TooDeep),
+                "refused certificate 3 TooDeep at 34\n",
+                3,
+            ),
+            (
+                refused(Role::Atom, Code::TooLarge),
+                "refused atom 7 TooLarge at 34\n",
+                3,
+            ),
+            (
+                refused(Role::Native, Code::ManyVariables),
+                "refused native 9 ManyVariables at 34\n",
+                3,
+            ),
+            (Answer::Usage, "usage\n", 4),
+            (Answer::ReadFault, "read fault\n", 5),
+            (Answer::OutOfMemory, WANT_OF_MEMORY, 8),
+            (Answer::OutOfMemory, "want of memory\n", 8),
+        ];
+        for (answer, line, code) in table {
+            let text = text_of(rt.alloc(), &answer)?;
+            assert_eq!(rt; text.as_str(), line);
+            assert_eq!(rt; status(&answer).code, code, "of {answer:?}");
+        }
+        Ok(())
+    }
 }

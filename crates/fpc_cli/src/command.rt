@@ -38,3 +38,52 @@ fn is_file_word(word: &str) -> bool
         [first, ..] => *first != b'-',
     }
 }
+
+#[cfg(test)]
+mod tests {
+    use super::*;
+    use fpc_base::OutOfMemory;
+    use std::alloc::Global;
+    use std::test::Fail;
+
+    fn words_of(alloc: Global, texts: &[&str]) -> Result<Words, OutOfMemory> {
+        let mut words = Words::new(alloc);
+        for text in texts {
+            words.push(String::from_str(alloc, text)?)?;
+        }
+        Ok(words)
+    }
+
+    #[test]
+    fn only_verify_and_two_files_are_a_command(rt: HostRuntime) -> Result<(), Fail> {
+        let usage = Command::Usage;
+        let table: [(&[&str], Command); 9] = [
+            (
+                &["verify", "a", "b"],
+                Command::Verify {
+                    problem: "a",
+                    explicit: "b",
+                },
+            ),
+            (
+                &["verify", "builtin:x", "e"],
+                Command::Verify {
+                    problem: "builtin:x",
+                    explicit: "e",
+                },
+            ),
+            (&[], usage),
+            (&["verify", "a"], usage),
+            (&["verify", "a", "b", "c"], usage),
+            (&["verify", "-a", "b"], usage),
+            (&["verify", "a", "-b"], usage),
+            (&["verify", "a", ""], usage),
+            (&["check", "a", "b"], usage),
+        ];
+        for (texts, command) in table {
+            let words = words_of(rt.alloc(), texts)?;
+            assert_eq!(rt; command_of(&words), command, "of {texts:?}");
+        }
+        Ok(())
+    }
+}
