@@ -1,4 +1,7 @@
 //! What is told of bad input.
+ghost use Rattle.std.specs.Prelude.{◌≡◌, Some};
+ghost use Rattle.fpc_base.specs.Refusal.{code_number, code_name};
+
 use crate::outside::OutOfMemory;
 use std::alloc::{AllocError, AllocFailed};
 use std::fmt;
@@ -30,7 +33,9 @@ pub enum Code {
 
 impl Code {
     /// The number by which the code is printed.
-    pub fn number(self) -> u8 {
+    pub fn number(self) -> u8
+        ensures { result ≡ code_number self }
+    {
         match self {
             Code::NotBuilt => 0,
             Code::BadByte => 1,
@@ -47,6 +52,8 @@ impl Code {
 }
 
 impl fmt::Display for Code {
+    ghost output = { λ code. Some (code_name code) };
+
     fn fmt<W: fmt::Write>(&self, f: &mut fmt::Formatter<W>) -> fmt::Result {
         f.write_str(match self {
             Code::NotBuilt => "NotBuilt",

@@ -1,0 +1,44 @@
+-- The line and the status of each of the program's answers.
+use Rattle.std.specs.Prelude.{ℕ, List, [], ◌∷◌, ◌++◌, codes, decimal}
+use Rattle.fpc_base.specs.declared.refusal.Refusal.{Refusal}
+use Rattle.fpc_base.specs.Refusal.{code_number, code_name}
+use Rattle.fpc_cli.specs.declared.answer.Role.{Role}
+use Rattle.fpc_cli.specs.declared.answer.Role.TheVariants.{Problem, Definition, Certificate, Explicit, Atom, Native}
+use Rattle.fpc_cli.specs.declared.answer.Answer.{Answer}
+use Rattle.fpc_cli.specs.declared.answer.Answer.TheVariants.{Accepted, Rejected, Refused, Usage, ReadFault, OutOfMemory}
+
+-- the name of a role
+abbrev pub role_name : Role → List ℕ
+role_name Problem = codes "problem"
+role_name Definition = codes "definition"
+role_name Certificate = codes "certificate"
+role_name Explicit = codes "explicit"
+role_name Atom = codes "atom"
+role_name Native = codes "native"
+
+-- the exit status of an answer
+abbrev pub status_of : Answer → ℕ
+status_of (Accepted steps) = 0
+status_of (Rejected at) = 1
+status_of (Refused role refusal) = 3
+status_of Usage = 4
+status_of ReadFault = 5
+status_of OutOfMemory = 8
+
+-- a refusal as its number, its name and its place in the file, as `2 Unexpected at 34`
+abbrev pub refusal_text : Refusal → List ℕ
+refusal_text refusal =
+    decimal (code_number refusal.code) ++ codes " " ++ code_name refusal.code ++ codes " at " ++ decimal refusal.at
+
+-- the words of an answer
+abbrev pub answer_words : Answer → List ℕ
+answer_words (Accepted steps) = codes "accepted, " ++ decimal steps ++ codes " steps"
+answer_words (Rejected at) = codes "rejected at step " ++ decimal at
+answer_words (Refused role refusal) = codes "refused " ++ role_name role ++ codes " " ++ refusal_text refusal
+answer_words Usage = codes "usage"
+answer_words ReadFault = codes "read fault"
+answer_words OutOfMemory = codes "want of memory"
+
+-- the line of an answer: its words and a line end
+abbrev pub answer_text : Answer → List ℕ
+answer_text answer = answer_words answer ++ 10 ∷ []
