@@ -5,6 +5,11 @@ use Rattle.lkf_rules.specs.Sequent.{Levelled}
 use Rattle.lkf_rules.specs.Derivation.{IsDerivable}
 use Rattle.explicit_kernel.specs.Pending.{AreLow}
 use Rattle.explicit_kernel.specs.Progress.{Advances, Misfits, HasSpelling, StopsAt}
+use Rattle.fpc_base.specs.Outside.{Rose}
+use Rattle.explicit_kernel.specs.declared.verify.Verdict.{Verdict}
+use Rattle.explicit_kernel.specs.declared.verify.Verdict.TheVariants.{Accepted, Rejected as RejectedAt}
+use Rattle.explicit_kernel.specs.declared.verify.VerifyRefusal.{VerifyRefusal}
+use Rattle.explicit_kernel.specs.declared.verify.VerifyRefusal.TheVariants.{Refused as RefusedAt, ReadFault, OutOfMemory as NoMemory}
 use Rattle.explicit_kernel.specs.declared.verify.Check as check
 use Rattle.explicit_kernel.specs.declared.verify.Part.{Part}
 use Rattle.explicit_kernel.specs.declared.verify.Part.TheVariants.{Header, Steps, Nothing}
@@ -41,3 +46,25 @@ IsStoppedFrom old new (Rejected k) =
     (new.play.fitted + 1 ≡ k) × ((q : List Levelled) × (n : ℕ) × Advances old.play.pending old.play.fitted q n × (n + 1 ≡ k) × (Misfits q ⊎ (q ≢ [])))
 IsStoppedFrom old new (Refused r) = r.at ≤ 67108864
 IsStoppedFrom old new OutOfMemory = Unit {0}
+
+-- a verdict is right for the goal
+abbrev pub IsRight : Formula → Verdict → Type 0
+IsRight f (Accepted n) = HasSpelling f n × IsDerivable f
+IsRight f (RejectedAt k) = StopsAt f k
+
+-- a tick for each step that fits
+abbrev pub HasTicked : ℕ → ℕ → Verdict → Type 0
+HasTicked before now (Accepted n) = now ≡ before + n
+HasTicked before now (RejectedAt k) = now + 1 ≡ before + k
+
+-- why there is no verdict, by the counts of faults before and now
+abbrev pub HasReason : ℕ → ℕ → VerifyRefusal → Type 0
+HasReason before now (RefusedAt r) = (now ≡ before) × (r.at ≤ 67108864)
+HasReason before now ReadFault = Rose before now
+HasReason before now NoMemory = now ≡ before
+
+-- what is told where the check stopped
+abbrev pub IsAnswerTo : Stop → Result Verdict VerifyRefusal → Type 0
+IsAnswerTo (Rejected k) answer = answer ≡ Ok (RejectedAt k)
+IsAnswerTo (Refused r) answer = answer ≡ Err (RefusedAt r)
+IsAnswerTo OutOfMemory answer = answer ≡ Err NoMemory

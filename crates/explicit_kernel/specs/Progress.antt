@@ -1,5 +1,5 @@
 -- How far the check of an explicit certificate has come.
-use Rattle.std.specs.Prelude.{◌≡◌, ◌≢◌, ◌↔◌, ◌⊎◌, ℕ, ◌+◌, ◌≤◌, ◌<◌, List, [], length, Option, Some, None, Bool, true}
+use Rattle.std.specs.Prelude.{◌≡◌, ◌≢◌, ◌⊎◌, ℕ, ◌+◌, List, [], length}
 use Rattle.polarised_formulas.specs.declared.logic.Logic.TheVariants.{Lkf}
 use Rattle.polarised_formulas.specs.declared.step.Step as code
 use Rattle.polarised_formulas.specs.Formula.{Formula}

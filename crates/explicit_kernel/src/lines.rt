@@ -27,7 +27,9 @@ fn place(digits: &[u8]) -> Option<u64> {
         if !digit.is_ascii_digit() {
             return None;
         }
-        place = place.checked_mul(10)?.checked_add(u64::from(*digit - b'0'))?;
+        place = place
+            .checked_mul(10)?
+            .checked_add(u64::from(*digit - b'0'))?;
     }
     Some(place)
 }

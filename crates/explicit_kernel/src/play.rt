@@ -36,7 +36,12 @@ impl Play {
     }
 
     /// Plays one more step, and counts it where it fits.
-    pub(crate) fn advance<L: Ledger>(&mut self, alloc: Global, step: &Step, steps: &mut Steps<L>) -> Result<(), StepRefusal>
+    pub(crate) fn advance<L: Ledger>(
+        &mut self,
+        alloc: Global,
+        step: &Step,
+        steps: &mut Steps<L>,
+    ) -> Result<(), StepRefusal>
         requires low { AreLow self.old.fitted self.old.pending }
         requires few { self.old.fitted < 2 ^ 32 }
         requires step { IsProperStep Lkf step.now }

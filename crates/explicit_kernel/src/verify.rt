@@ -7,7 +7,7 @@ ghost use Rattle.lkf_rules.specs.Derivation.{IsDerivable};
 ghost use Rattle.lkf_rules.specs.Play.{start_of};
 ghost use Rattle.polarised_formulas.specs.declared.logic.Logic.TheVariants.{Lkf};
 ghost use Rattle.explicit_kernel.specs.Progress.{Advances, HasSpelling};
-ghost use Rattle.explicit_kernel.specs.Check.{IsUnderWay, IsStopped, IsStoppedFrom, HasTicks};
+ghost use Rattle.explicit_kernel.specs.Check.{IsUnderWay, IsStopped, IsStoppedFrom, IsAnswerTo, IsRight, HasTicked, HasReason, HasTicks};
 
 use crate::lines::{HEADER, LONGEST, Line, line_of};
 use crate::play::Play;
@@ -16,9 +16,10 @@ use fpc_base::refusal::{Code, Refusal};
 use fpc_base::steps::Steps;
 use fpc_terms::names::Names;
 use lkf_rules::rules::outcome::StepRefusal;
+use polarised_formulas::formula::Formula;
 use polarised_formulas::problem::Problem;
 use polarised_formulas::step::Step;
-use std::alloc::{AllocFailed, Global};
+use std::alloc::Global;
 use std::sync::ledger::Ledger;
 
 /// The most bytes of an explicit certificate.
@@ -54,12 +55,6 @@ enum Stop {
     OutOfMemory,
 }
 
-impl From<OutOfMemory> for Stop {
-    fn from(_e: OutOfMemory) -> Stop {
-        Stop::OutOfMemory
-    }
-}
-
 /// What comes next in a certificate.
 #[derive(Clone, Copy)]
 enum Part {
@@ -93,6 +88,22 @@ fn not_built(at: usize) -> Refusal
 }
 
 impl Check {
+    /// No byte is taken yet.
+    fn start(alloc: Global, goal: &Formula) -> Result<Check, OutOfMemory>
+        ensures under_way { IfOk result IsUnderWay }
+        ensures pending { IfOk result (λ c. c.play.pending ≡ start_of goal.now) }
+        ensures fitted { IfOk result (λ c. c.play.fitted ≡ 0) }
+        ensures at { IfOk result (λ c. c.at ≡ 0) }
+    {
+        Ok(Check {
+            play: Play::start(alloc, goal)?,
+            part: Part::Header,
+            line: Vec::new(alloc),
+            line_at: 0,
+            at: 0,
+        })
+    }
+
     /// Takes the header line.
     fn take_header(&mut self) -> Result<(), Stop>
         requires under_way { IsUnderWay self.old }
@@ -126,10 +137,15 @@ impl Check {
     }
 
     /// Takes a step.
-    fn take_step<L: Ledger>(&mut self, alloc: Global, step: &Step, steps: &mut Steps<L>) -> Result<(), Stop>
+    fn take_step<L: Ledger>(
+        &mut self,
+        alloc: Global,
+        step: &Step,
+        steps: &mut Steps<L>,
+    ) -> Result<(), Stop>
         requires under_way { IsUnderWay self.old }
         requires part { self.old.part ≡ Part.Steps }
-        requires within { self.old.at < LIMIT }
+        requires room { self.old.play.fitted < self.old.at }
         requires step { IsProperStep Lkf step.now }
         ensures ok { OnOk result (IsUnderWay self.new) }
         ensures played { OnOk result (Advances self.old.play.pending self.old.play.fitted self.new.play.pending self.new.play.fitted) }
@@ -166,7 +182,12 @@ impl Check {
     }
 
     /// Takes one more byte.
-    fn take_byte<L: Ledger>(&mut self, alloc: Global, byte: u8, steps: &mut Steps<L>) -> Result<(), Stop>
+    fn take_byte<L: Ledger>(
+        &mut self,
+        alloc: Global,
+        byte: u8,
+        steps: &mut Steps<L>,
+    ) -> Result<(), Stop>
         requires under_way { IsUnderWay self.old }
         ensures ok { OnOk result (IsUnderWay self.new) }
         ensures played { OnOk result (Advances self.old.play.pending self.old.play.fitted self.new.play.pending self.new.play.fitted) }
@@ -216,7 +237,8 @@ impl Check {
         requires under_way { IsUnderWay self.old }
         requires within { self.old.at < LIMIT }
         ensures ok { OnOk result (IsUnderWay self.new) }
-        ensures play { self.new.play ≡ self.old.play }
+        ensures played { OnOk result (Advances self.old.play.pending self.old.play.fitted self.new.play.pending self.new.play.fitted) }
+        ensures fitted { self.new.play.fitted ≡ self.old.play.fitted }
         ensures at { OnOk result (self.new.at ≡ self.old.at + 1) }
         ensures stopped { IfErr result (IsStopped self.old self.new) }
     {
@@ -228,7 +250,12 @@ impl Check {
     }
 
     /// Takes a piece of bytes.
-    fn take_piece<L: Ledger>(&mut self, alloc: Global, piece: &[u8], steps: &mut Steps<L>) -> Result<(), Stop>
+    fn take_piece<L: Ledger>(
+        &mut self,
+        alloc: Global,
+        piece: &[u8],
+        steps: &mut Steps<L>,
+    ) -> Result<(), Stop>
         requires under_way { IsUnderWay self.old }
         ensures ok { OnOk result (IsUnderWay self.new) }
         ensures played { OnOk result (Advances self.old.play.pending self.old.play.fitted self.new.play.pending self.new.play.fitted) }
@@ -237,8 +264,107 @@ impl Check {
         ensures stopped { IfErr result (IsStoppedFrom self.old self.new) }
     {
         for byte in piece {
-            self.take_byte(alloc, *byte, steps)?;
+            match self.take_byte(alloc, *byte, steps) {
+                Ok(()) => {}
+                Err(stop) => return Err(stop),
+            }
         }
         Ok(())
+    }
+
+    /// The verdict at the end of the bytes.
+    fn finished(&self) -> Result<Verdict, Refusal>
+        requires under_way { IsUnderWay self.now }
+        ensures verdict { IfOk result (λ v. (v ≡ Verdict.Accepted self.now.play.fitted) × (self.now.play.pending ≡ [])) }
+        ensures place { IfErr result (λ r. r.at ≤ LIMIT) }
+    {
+        match self.part {
+            Part::Nothing => Ok(Verdict::Accepted {
+                steps: self.play.fitted,
+            }),
+            _ => Err(not_built(self.line_at)),
+        }
+    }
+}
+
+/// The answer where the check stopped before the end of the bytes.
+fn answer_to(stop: Stop) -> Result<Verdict, VerifyRefusal>
+    ensures { IsAnswerTo stop result }
+{
+    match stop {
+        Stop::Rejected(at) => Ok(Verdict::Rejected { at }),
+        Stop::Refused(refusal) => Err(VerifyRefusal::Refused(refusal)),
+        Stop::OutOfMemory => Err(VerifyRefusal::OutOfMemory),
+    }
+}
+
+/// Checks the certificate that a source holds, by way of a buffer.
+fn verify_through<S: Source, L: Ledger>(
+    alloc: Global,
+    goal: &Formula,
+    source: &mut S,
+    buffer: &mut [u8],
+    steps: &mut Steps<L>,
+) -> Result<Verdict, VerifyRefusal>
+    requires closed { IsClosed goal.now }
+    requires buffer { length buffer.old ≡ PIECE }
+    ensures verdict { IfOk result (IsRight goal.now) }
+    ensures ticks { IfOk result (HasTicked steps.old steps.new) }
+    ensures count { OnOk result (S.faults source.new ≡ S.faults source.old) }
+    ensures reason { IfErr result (HasReason (S.faults source.old) (S.faults source.new)) }
+    ensures never_falls { S.faults source.old ≤ S.faults source.new }
+    ensures content { S.content source.new ≡ S.content source.old }
+{
+    let mut check = match Check::start(alloc, goal) {
+        Ok(check) => check,
+        Err(_) => return Err(VerifyRefusal::OutOfMemory),
+    };
+    loop {
+        match source.read(buffer) {
+            Ok(0) => match check.finished() {
+                Ok(verdict) => return Ok(verdict),
+                Err(refusal) => return Err(VerifyRefusal::Refused(refusal)),
+            },
+            Ok(n) => {
+                let (piece, _) = buffer.split_at(n);
+                match check.take_piece(alloc, piece, steps) {
+                    Ok(()) => {}
+                    Err(stop) => return answer_to(stop),
+                }
+            }
+            Err(Failed) => return Err(VerifyRefusal::ReadFault),
+        }
+    }
+}
+
+/// Checks the explicit certificate that the source holds for the problem's goal, as its bytes come: each step replaces the next
+/// sequent by the premises of the rule that it names. Each step that fits is one tick. For now the steps are `or-`, `store`,
+/// `decide k` and `init k`, and every other certificate is refused by `NotBuilt` at the place where its first line begins that
+/// can't be read. A step is judged when its line end is read, so of a refusal and a rejection the one that lies first is told.
+pub fn verify<S: Source, L: Ledger>(
+    alloc: Global,
+    _names: &mut Names,
+    problem: &Problem,
+    source: &mut S,
+    steps: &mut Steps<L>,
+) -> Result<Verdict, VerifyRefusal>
+    requires logic { problem.now.logic ≡ Lkf }
+    requires closed { IsClosed problem.now.goal }
+    ensures verdict { IfOk result (IsRight problem.now.goal) }
+    ensures ticks { IfOk result (HasTicked steps.old steps.new) }
+    ensures count { OnOk result (S.faults source.new ≡ S.faults source.old) }
+    ensures reason { IfErr result (HasReason (S.faults source.old) (S.faults source.new)) }
+    ensures never_falls { S.faults source.old ≤ S.faults source.new }
+    ensures content { S.content source.new ≡ S.content source.old }
+{
+    match vec![in alloc; 0u8; PIECE] {
+        Ok(mut buffer) => verify_through(
+            alloc,
+            &problem.goal,
+            source,
+            buffer.as_mut_slice(),
+            steps,
+        ),
+        Err(_) => Err(VerifyRefusal::OutOfMemory),
     }
 }

@@ -1,5 +1,5 @@
 -- A piece that is taken from a place in a list, and what is after it.
-use Rattle.std.proofs.Common.{◌≡◌, ℕ, ◌+◌, ◌-◌, List, ◌++◌, length, take, drop, refl, sym, arith, length-drop}
+use Rattle.std.proofs.Common.{◌≡◌, ℕ, ◌+◌, ◌-◌, List, ◌++◌, length, take, drop, sym, arith, length-drop}
 use Rattle.std.proofs.lemmas.List.{take_all, take-append-drop, drop-drop}
 
 pub take-from : (xs piece : List ℕ) (at n : ℕ) → piece ≡ take n (take (length xs - at) (drop at xs)) → drop at xs ≡ piece ++ drop (at + n) xs

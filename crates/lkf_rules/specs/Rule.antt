@@ -1,7 +1,6 @@
 -- The rules of LKF, after Liang and Miller: a conclusion and its premises, by these lines and no others.
 use Rattle.std.specs.Prelude.{◌≡◌, ℕ, Bool, true, false, List, [], ◌∷◌, ◌++◌}
 use Rattle.fpc_terms.specs.Term.{Term, Args, eigen, IsProperTerm, Always}
-use Rattle.polarised_formulas.specs.declared.logic.Polarity.{Polarity}
 use Rattle.polarised_formulas.specs.declared.logic.Polarity.TheVariants.{Positive, Negative}
 use Rattle.polarised_formulas.specs.Formula.{Formula, truth, falsity, atom, conj, disj, implies, for_all, exists, polarity_of, dual_of, open_at, IsProper, IsLkf}
 use Rattle.lkf_rules.specs.Sequent.{Sequent, up, down, IsFresh, StandsIn}

@@ -1,9 +1,9 @@
 -- Formulas as trees, their nodes in prefix order, and their meaning: polarity, dual, opening, closedness.
-use Rattle.std.specs.Prelude.{◌≡◌, ℕ, zero, suc, ◌<◌, Bool, true, false, not, ◌||◌, List, [], ◌∷◌, ◌++◌, map, Option, Some, None, refl}
+use Rattle.std.specs.Prelude.{◌≡◌, ℕ, suc, ◌<◌, Bool, true, false, not, ◌||◌, List, [], ◌∷◌, Option, Some, None, refl}
 use Rattle.std.specs.Coded.{Coded, code_by, coded_list}
-use Rattle.std.proofs.Common.{ap, sym, ◌∙◌}
+use Rattle.std.proofs.Common.{ap}
 use Rattle.fpc_terms.specs.declared.cell.Cell.{Cell}
-use Rattle.fpc_terms.specs.Term.{Term, Args, no_args, arg, count, all_before, first_args, cell_on, terms_from, terms_from-all_before, first_args-joined, open_args, any_has_eigen_from, EachArg, Never}
+use Rattle.fpc_terms.specs.Term.{Term, Args, no_args, count, all_before, first_args, cell_on, terms_from, terms_from-all_before, first_args-joined, open_args, any_has_eigen_from, EachArg, Never}
 use Rattle.polarised_formulas.specs.declared.logic.Logic.{Logic}
 use Rattle.polarised_formulas.specs.declared.logic.Logic.TheVariants.{Lkf, Ljf}
 use Rattle.polarised_formulas.specs.declared.logic.Polarity.{Polarity}

@@ -1,4 +1,4 @@
-use Rattle.std.proofs.Common.{◌≡◌, Ok, Err, ap}
+use Rattle.std.proofs.Common.{◌≡◌, Err, ap}
 use Rattle.lkf_rules.specs.declared.rules.outcome.StepRefusal.TheVariants.{DoesNotFit}
 use Rattle.lkf_rules.specs.Values.{premise_list}
 use Rattle.explicit_kernel.proofs.Fitting.{IsNext, IsNext-top, fitting, unfitting, names_no_premises, can_fit}
@@ -21,6 +21,7 @@ returns-in-Ok-replace_first-clause-unfit c =
 
 pub returns-in-Err-clause-unfit : goal.returns-in-Err-clause-unfit
 returns-in-Err-clause-unfit c =
-    let next : IsNext c.args.self.now c.in-Some.sequent.now = IsNext-top c.self.inside.sequents c.in-Some.sequent.now c.args.self.now c.in-Some.ensures.some c.self.view_is in
-    (λ e. let h : c.in-Err.refusal ≡ DoesNotFit = cc in unfitting c.args.self.now c.in-Some.sequent.now c.args.step.now next (c.in-Err.ensures.unfit.0 (ap Err h)),
-    λ g. let h = c.in-Err.ensures.unfit.1 (names_no_premises c.args.self.now c.in-Some.sequent.now c.args.step.now next c.requires.step g) in cc)
+    let next : IsNext c.args.self.now c.in-Some.sequent.now = IsNext-top c.self.inside.sequents c.in-Some.sequent.now c.args.self.now c.in-Some.ensures.some c.self.view_is in (
+      λ e. let h : c.in-Err.refusal ≡ DoesNotFit = cc in unfitting c.args.self.now c.in-Some.sequent.now c.args.step.now next (c.in-Err.ensures.unfit.0 (ap Err h)),
+      λ g. let h = c.in-Err.ensures.unfit.1 (names_no_premises c.args.self.now c.in-Some.sequent.now c.args.step.now next c.requires.step g) in cc,
+    )
