@@ -4,6 +4,8 @@ ghost use Rattle.fpc_base.specs.Tokens.{tokens_of, source_of, place_of, tokens_l
 
 mod bytes;
 mod front;
+#[cfg(test)]
+mod tests;
 
 use crate::refusal::Refusal;
 use front::{Front, front_at};

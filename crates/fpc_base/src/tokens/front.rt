@@ -4,7 +4,9 @@ ghost use Rattle.fpc_base.specs.Tokens.{is_one_of, symbols, unit_words, keywords
 
 use crate::refusal::Code;
 use crate::tokens::TokenKind;
-use crate::tokens::bytes::{digits, is_blank, is_capital, is_digit, is_small, line_bytes, word_bytes};
+use crate::tokens::bytes::{
+    digits, is_blank, is_capital, is_digit, is_small, line_bytes, word_bytes,
+};
 
 /// The most bytes of a name or a variable.
 const MOST_NAME_BYTES: usize = 255;
