@@ -1,11 +1,10 @@
 -- How the tokens from one place on are told by what stands there.
-use Rattle.std.proofs.Common.{◌≡◌, ℕ, suc, zero, ◌+◌, ◌-◌, ◌<◌, ◌≤◌, List, [], ◌∷◌, length, take, drop, refl, ap, arith, ◌∙◌, sym, add-zero, length-take}
+use Rattle.std.proofs.Common.{◌≡◌, ℕ, suc, zero, ◌+◌, ◌-◌, ◌<◌, ◌≤◌, List, [], ◌∷◌, length, take, drop, refl, ap, arith, ◌∙◌, add-zero, length-take}
 use Rattle.std.proofs.lemmas.List.{drop-drop, take_rest}
-use Rattle.fpc_base.specs.Tokens.{Scanned, token, refused, scanned, tokens_behind, tokens_from, front_of, size_of}
-use Rattle.fpc_base.specs.declared.refusal.Code.{Code}
+use Rattle.fpc_base.specs.Tokens.{token, scanned, tokens_behind, tokens_from, front_of, size_of}
 use Rattle.fpc_base.specs.declared.tokens.TokenKind.{TokenKind}
 use Rattle.fpc_base.specs.declared.tokens.front.Front.{Front}
-use Rattle.fpc_base.specs.declared.tokens.front.Front.TheVariants.{Gap, Piece, Fault}
+use Rattle.fpc_base.specs.declared.tokens.front.Front.TheVariants.{Piece}
 
 -- this stands at the front of the bytes
 pub record IsFront (f : Front) (bytes : List ℕ) : Type 0 where

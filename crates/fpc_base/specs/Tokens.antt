@@ -1,8 +1,7 @@
 -- The tokens of a text, told by its bytes.
-use Rattle.std.specs.Prelude.{◌≡◌, ℕ, suc, zero, ◌+◌, ◌-◌, ◌<◌, ◌≤◌, Bool, true, false, if◌then◌else◌, not, ◌&&◌, ◌||◌, nat_eq, nat_le, List, [], ◌∷◌, length, take, drop, slice_range, codes, Option, Some, None, Result, Ok, Err}
-use Rattle.std.specs.List.{list_any, prefix_len}
+use Rattle.std.specs.Prelude.{◌≡◌, ℕ, suc, zero, ◌+◌, ◌-◌, ◌<◌, ◌≤◌, Bool, true, false, if◌then◌else◌, not, ◌&&◌, ◌||◌, nat_eq, nat_le, nat_lt, List, [], ◌∷◌, length, take, drop, slice_range, codes, Option, Some, None, Result, Ok, Err}
+use Rattle.std.specs.List.{list_any, list_all, prefix_len}
 use Rattle.std.specs.Str.{bytes_eq}
-use Rattle.fpc_base.specs.declared.refusal.Code.{Code}
 use Rattle.fpc_base.specs.declared.refusal.Code.TheVariants.{BadByte, LongName}
 use Rattle.fpc_base.specs.declared.refusal.Refusal.{Refusal}
 use Rattle.fpc_base.specs.declared.tokens.Token.{Token}
@@ -155,3 +154,58 @@ pub record IsSpan (source : List ℕ) (before now : ℕ) (t : Token) : Type 0 wh
   pub some : t.at < now
   pub within : now ≤ length source
   pub text : t.text.now ≡ slice_range source t.at now
+
+-- The same tokens by their forms, without the order in which a front is looked at: for the law that the longest is taken.
+
+-- what begins as the test says, and goes on with letters, digits and `_`
+abbrev pub is_name_from : (ℕ → Bool) → List ℕ → Bool
+is_name_from begins [] = false
+is_name_from begins (b ∷ bs) = begins b && list_all is_word_byte bs
+
+abbrev pub is_word : List ℕ → Bool
+is_word x = is_name_from is_small x
+
+abbrev pub is_variable : List ℕ → Bool
+is_variable x = is_name_from is_capital x
+
+abbrev pub units : List (List ℕ)
+units = codes "tt+" ∷ codes "tt-" ∷ codes "ff+" ∷ codes "ff-" ∷ []
+
+-- a digit 1 to 9, and digits
+abbrev pub is_long_number : List ℕ → Bool
+is_long_number [] = false
+is_long_number (b ∷ bs) = not (nat_eq b 48) && is_digit b && list_all is_digit bs
+
+abbrev pub is_number : List ℕ → Bool
+is_number x = bytes_eq x (codes "0") || is_long_number x
+
+-- a token of any kind and size
+abbrev pub is_token : List ℕ → Bool
+is_token x = is_word x || is_one_of units x || is_variable x || is_number x || is_one_of symbols x
+
+-- a token of that kind, of any size
+abbrev pub has_form : TokenKind → List ℕ → Bool
+has_form Name x = is_word x && not (is_one_of keywords x)
+has_form Variable x = is_variable x
+has_form Number x = is_number x
+has_form Word x = is_one_of keywords x || is_one_of units x
+has_form Symbol x = is_one_of symbols x
+
+-- a word, a variable or a number of more bytes than it may have
+abbrev pub is_too_long : List ℕ → Bool
+is_too_long x = ((is_word x || is_variable x) && nat_lt 255 (length x)) || (is_number x && nat_lt 9 (length x))
+
+-- no more than the first n bytes are a token
+abbrev pub NoLonger : ℕ → List ℕ → Type 0
+NoLonger n bytes = (m : ℕ) → n < m → m ≤ length bytes → is_token (take m bytes) ≡ false
+
+-- a token is the longest at the front, a bad byte begins none, and what is too long is the longest at the front too
+abbrev pub IsLongest : Front → List ℕ → Type 0
+IsLongest (Gap n) bytes = NoLonger 0 bytes
+IsLongest (Piece kind n) bytes = (has_form kind (take n bytes) ≡ true) × (is_too_long (take n bytes) ≡ false) × NoLonger n bytes
+IsLongest (Fault BadByte) bytes = NoLonger 0 bytes
+IsLongest (Fault LongName) bytes = (n : ℕ) × (n ≤ length bytes) × (is_too_long (take n bytes) ≡ true) × NoLonger n bytes
+IsLongest (Fault _) bytes = ⊥
+
+abbrev pub LongestIsTaken : Type 0
+LongestIsTaken = (b : ℕ) (rest : List ℕ) → IsLongest (front_of b rest) (b ∷ rest)

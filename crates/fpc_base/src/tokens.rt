@@ -1,6 +1,6 @@
 //! The tokens of a source.
 ghost use Rattle.std.specs.Prelude.{◌≡◌, ◌<◌, ◌≤◌, length, IfOk, IfSome, IfErr};
-ghost use Rattle.fpc_base.specs.Tokens.{tokens_of, source_of, place_of, tokens_left, end_of, IsFirst, IsNext, IsSpan};
+ghost use Rattle.fpc_base.specs.Tokens.{tokens_of, source_of, place_of, tokens_left, end_of, IsFirst, IsNext, IsSpan, LongestIsTaken};
 
 mod bytes;
 mod front;
@@ -35,6 +35,12 @@ pub struct Tokens<'a> {
     bytes: &'a [u8],
     at: usize,
 }
+
+/// A law of the tokens' definition, with nothing to run: what it takes at the front is a token of its kind there, and
+/// no longer front of the bytes is a token; where it takes none, no front is.
+pub fn longest_is_taken()
+    ensures { LongestIsTaken }
+{}
 
 /// The first token of the bytes from the start on.
 fn token_from<'a>(bytes: &'a [u8], start: usize) -> Result<Option<Token<'a>>, Refusal>

@@ -1,5 +1,4 @@
-use Rattle.std.proofs.Common.{◌≡◌, ◌+◌, arith, ◌∙◌, sym}
-use Rattle.fpc_base.specs.Tokens.{tokens_from}
+use Rattle.std.proofs.Common.{arith, ◌∙◌, sym}
 use Rattle.fpc_base.specs.declared.tokens.front.Front.TheVariants.{Gap, Fault}
 use Rattle.fpc_base.proofs.TokenLemmas.{tokens_from-slice, tokens_from-piece}
 use Rattle.fpc_base.proofs.tokens.token_from.Goals as goal
