@@ -6,6 +6,7 @@ pub mod outside;
 pub mod real;
 pub mod refusal;
 pub mod steps;
+pub mod tokens;
 pub mod transfer;
 
 pub use memory::{MemFiles, MemSink, MemSource};
@@ -13,4 +14,5 @@ pub use outside::{Failed, Files, OutOfMemory, Sink, Source};
 pub use real::{StdFiles, StdSink, StdSource};
 pub use refusal::{Code, ParseRefusal, ReadRefusal, Refusal};
 pub use steps::Steps;
+pub use tokens::{Token, TokenKind, Tokens};
 pub use transfer::{put, read_all};

@@ -6,4 +6,6 @@ mod command;
 mod status;
 mod words;
 
+mod run;
+
 fn main(_rt: HostRuntime) {}
