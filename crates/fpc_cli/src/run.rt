@@ -1,0 +1,152 @@
+//! All that the program does, over any files and any sink.
+ghost use Rattle.std.specs.Prelude.{◌≡◌, ◌≢◌, ◌≤◌, ◌<◌, ◌⊎◌, List, ℕ, OnOk, IfOk, IfErr};
+ghost use Rattle.fpc_base.specs.Outside.{missing};
+ghost use Rattle.polarised_formulas.specs.Formula.{IsClosed};
+ghost use Rattle.polarised_formulas.specs.declared.logic.Logic.TheVariants.{Lkf};
+ghost use Rattle.fpc_cli.specs.Command.{asked_by, verify as asked_to_verify};
+ghost use Rattle.fpc_cli.specs.Answer.{answer_text, status_of};
+ghost use Rattle.fpc_cli.specs.Run.{IsCaused, IsWritten, IsAnswered, IsPut, IsAnswerOf};
+
+use crate::answer::{Answer, Role, WANT_OF_MEMORY, status, text_of};
+use crate::command::{Command, command_of};
+use crate::status::Status;
+use crate::words::Words;
+use explicit_kernel::verify::{Verdict, VerifyRefusal, verify};
+use fpc_base::outside::{Failed, Files, Sink};
+use fpc_base::refusal::{Code, ParseRefusal, ReadRefusal, Refusal};
+use fpc_base::steps::Steps;
+use fpc_base::transfer::{put, read_all};
+use fpc_terms::names::Names;
+use polarised_formulas::problem::{Problem, read_problem};
+use std::alloc::Global;
+use std::marker::Brand;
+use std::sync::ledger::{Blank, Ledger};
+
+/// The most bytes of a source file.
+const SOURCE_LIMIT: usize = 16_777_216;
+
+/// Opens and reads the problem's file.
+fn problem_in<F: Files>(
+    alloc: Global,
+    names: &mut Names,
+    name: &str,
+    files: &mut F,
+) -> Result<Problem, Answer>
+    ensures logic { IfOk result (λ p. p.logic ≡ Lkf) }
+    ensures closed { IfOk result (λ p. IsClosed p.goal) }
+    ensures there { OnOk result (F.content files.old name.now ≢ missing) }
+    ensures count { OnOk result (F.faults files.new ≡ F.faults files.old) }
+    ensures caused { IfErr result (λ a. (explicit : List ℕ) → IsCaused (asked_to_verify name.now explicit) (F.content files.old) (F.faults files.old) (F.faults files.new) a) }
+    ensures content { F.content files.new ≡ F.content files.old }
+{
+    if files.open(name).is_err() {
+        return Err(Answer::ReadFault);
+    }
+    let bytes = match read_all(alloc, files, SOURCE_LIMIT) {
+        Ok(bytes) => bytes,
+        Err(ReadRefusal::Failed) => return Err(Answer::ReadFault),
+        Err(ReadRefusal::OutOfMemory) => return Err(Answer::OutOfMemory),
+        Err(ReadRefusal::TooLarge) => {
+            return Err(Answer::Refused {
+                role: Role::Problem,
+                refusal: Refusal {
+                    code: Code::TooLarge,
+                    at: SOURCE_LIMIT,
+                },
+            });
+        }
+    };
+    match read_problem(alloc, names, bytes.as_slice()) {
+        Ok(problem) => Ok(problem),
+        Err(ParseRefusal::Refused(refusal)) => Err(Answer::Refused {
+            role: Role::Problem,
+            refusal,
+        }),
+        Err(ParseRefusal::OutOfMemory) => Err(Answer::OutOfMemory),
+    }
+}
+
+/// The answer that a verdict is.
+fn answer_of(verdict: Result<Verdict, VerifyRefusal>) -> Answer
+    ensures { IsAnswerOf verdict result }
+{
+    match verdict {
+        Ok(Verdict::Accepted { steps }) => Answer::Accepted { steps },
+        Ok(Verdict::Rejected { at }) => Answer::Rejected { at },
+        Err(VerifyRefusal::Refused(refusal)) => Answer::Refused {
+            role: Role::Explicit,
+            refusal,
+        },
+        Err(VerifyRefusal::ReadFault) => Answer::ReadFault,
+        Err(VerifyRefusal::OutOfMemory) => Answer::OutOfMemory,
+    }
+}
+
+/// Opens the explicit certificate and checks it against the problem.
+fn judged<F: Files, L: Ledger>(
+    alloc: Global,
+    names: &mut Names,
+    problem: &Problem,
+    name: &str,
+    files: &mut F,
+    blank: Blank,
+) -> Answer
+    requires logic { problem.now.logic ≡ Lkf }
+    requires closed { IsClosed problem.now.goal }
+    requires name { blank.name ≡ L.name }
+    requires parts { blank.parts ≡ L.parts }
+    requires one { 0 < L.parts }
+    ensures caused { (p : List ℕ) → F.content files.old p ≢ missing → IsCaused (asked_to_verify p name.now) (F.content files.old) (F.faults files.old) (F.faults files.new) result }
+{
+    if files.open(name).is_err() {
+        return Answer::ReadFault;
+    }
+    let mut steps = Steps::<L>::new(blank);
+    answer_of(verify(alloc, names, problem, files, &mut steps))
+}
+
+/// The answer to `verify`.
+fn verified<F: Files>(alloc: Global, problem: &str, explicit: &str, files: &mut F) -> Answer
+    ensures { IsCaused (asked_to_verify problem.now explicit.now) (F.content files.old) (F.faults files.old) (F.faults files.new) result }
+{
+    let mut names = Names::new(alloc);
+    match problem_in(alloc, &mut names, problem, files) {
+        Ok(problem) => judged::<F, Brand>(alloc, &mut names, &problem, explicit, files, Blank::new(1)),
+        Err(answer) => answer,
+    }
+}
+
+/// The answer to the words.
+fn answer<F: Files>(alloc: Global, words: &Words, files: &mut F) -> Answer
+    ensures { IsCaused (asked_by words.now) (F.content files.old) (F.faults files.old) (F.faults files.new) result }
+{
+    match command_of(words) {
+        Command::Verify { problem, explicit } => verified(alloc, problem, explicit, files),
+        Command::Usage => Answer::Usage,
+    }
+}
+
+/// Writes a text that was made, and gives the status.
+fn write<S: Sink>(status: Status, text: &[u8], out: &mut S) -> Status
+    ensures { IsPut status.code text.now result.code (S.faults out.old) (S.faults out.new) (S.taken out.old) (S.taken out.new) }
+{
+    match put(out, text) {
+        Ok(()) => status,
+        Err(Failed) => Status { code: 6 },
+    }
+}
+
+/// Runs the program on its words: makes the whole output first, then writes it. The status is 0 for accepted, 1 for rejected,
+/// 3 for a refused file, 4 for words that are no command, 5 for a read fault, 6 for a write fault, 8 for want of memory.
+pub fn run<F: Files, S: Sink>(alloc: Global, words: &Words, files: &mut F, out: &mut S) -> Status
+    ensures {
+        IsAnswered (asked_by words.now) (F.content files.old) (F.faults files.old) (F.faults files.new) result.code
+        (S.faults out.old) (S.faults out.new) (S.taken out.old) (S.taken out.new)
+    }
+{
+    let answer = answer(alloc, words, files);
+    match text_of(alloc, &answer) {
+        Ok(text) => write(status(&answer), text.as_bytes(), out),
+        Err(_) => write(status(&Answer::OutOfMemory), WANT_OF_MEMORY.as_bytes(), out),
+    }
+}
