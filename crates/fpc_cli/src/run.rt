@@ -4,8 +4,7 @@ ghost use Rattle.fpc_base.specs.Outside.{missing};
 ghost use Rattle.polarised_formulas.specs.Formula.{IsClosed};
 ghost use Rattle.polarised_formulas.specs.declared.logic.Logic.TheVariants.{Lkf};
 ghost use Rattle.fpc_cli.specs.Command.{asked_by, verify as asked_to_verify};
-ghost use Rattle.fpc_cli.specs.Answer.{answer_text, status_of};
-ghost use Rattle.fpc_cli.specs.Run.{IsCaused, IsWritten, IsAnswered, IsPut, IsAnswerOf};
+ghost use Rattle.fpc_cli.specs.Run.{HasFilesTo, IsCaused, IsAnswered, IsPut, IsAnswerOf};
 
 use crate::answer::{Answer, Role, WANT_OF_MEMORY, status, text_of};
 use crate::command::{Command, command_of};
@@ -82,12 +81,11 @@ fn answer_of(verdict: Result<Verdict, VerifyRefusal>) -> Answer
     }
 }
 
-/// Opens the explicit certificate and checks it against the problem.
+/// Checks the open explicit certificate against the problem.
 fn judged<F: Files, L: Ledger>(
     alloc: Global,
     names: &mut Names,
     problem: &Problem,
-    name: &str,
     files: &mut F,
     blank: Blank,
 ) -> Answer
@@ -96,13 +94,28 @@ fn judged<F: Files, L: Ledger>(
     requires name { blank.name ≡ L.name }
     requires parts { blank.parts ≡ L.parts }
     requires one { 0 < L.parts }
+    ensures caused { (p e : List ℕ) → HasFilesTo Role.Explicit (asked_to_verify p e) (F.content files.old) → IsCaused (asked_to_verify p e) (F.content files.old) (F.faults files.old) (F.faults files.new) result }
+{
+    let mut steps = Steps::<L>::new(blank);
+    answer_of(verify(alloc, names, problem, files, &mut steps))
+}
+
+/// Opens the explicit certificate and checks it against the problem.
+fn checked<F: Files>(
+    alloc: Global,
+    names: &mut Names,
+    problem: &Problem,
+    name: &str,
+    files: &mut F,
+) -> Answer
+    requires logic { problem.now.logic ≡ Lkf }
+    requires closed { IsClosed problem.now.goal }
     ensures caused { (p : List ℕ) → F.content files.old p ≢ missing → IsCaused (asked_to_verify p name.now) (F.content files.old) (F.faults files.old) (F.faults files.new) result }
 {
     if files.open(name).is_err() {
         return Answer::ReadFault;
     }
-    let mut steps = Steps::<L>::new(blank);
-    answer_of(verify(alloc, names, problem, files, &mut steps))
+    judged::<F, Brand>(alloc, names, problem, files, Blank::new(1))
 }
 
 /// The answer to `verify`.
@@ -111,7 +124,7 @@ fn verified<F: Files>(alloc: Global, problem: &str, explicit: &str, files: &mut 
 {
     let mut names = Names::new(alloc);
     match problem_in(alloc, &mut names, problem, files) {
-        Ok(problem) => judged::<F, Brand>(alloc, &mut names, &problem, explicit, files, Blank::new(1)),
+        Ok(problem) => checked(alloc, &mut names, &problem, explicit, files),
         Err(answer) => answer,
     }
 }
@@ -139,10 +152,8 @@ fn write<S: Sink>(status: Status, text: &[u8], out: &mut S) -> Status
 /// Runs the program on its words: makes the whole output first, then writes it. The status is 0 for accepted, 1 for rejected,
 /// 3 for a refused file, 4 for words that are no command, 5 for a read fault, 6 for a write fault, 8 for want of memory.
 pub fn run<F: Files, S: Sink>(alloc: Global, words: &Words, files: &mut F, out: &mut S) -> Status
-    ensures {
-        IsAnswered (asked_by words.now) (F.content files.old) (F.faults files.old) (F.faults files.new) result.code
-        (S.faults out.old) (S.faults out.new) (S.taken out.old) (S.taken out.new)
-    }
+    ensures { IsAnswered (asked_by words.now) (F.content files.old) (F.faults files.old) (F.faults files.new) result.code
+        (S.faults out.old) (S.faults out.new) (S.taken out.old) (S.taken out.new) }
 {
     let answer = answer(alloc, words, files);
     match text_of(alloc, &answer) {
@@ -150,3 +161,6 @@ pub fn run<F: Files, S: Sink>(alloc: Global, words: &Words, files: &mut F, out: 
         Err(_) => write(status(&Answer::OutOfMemory), WANT_OF_MEMORY.as_bytes(), out),
     }
 }
+
+#[cfg(test)]
+mod tests;
