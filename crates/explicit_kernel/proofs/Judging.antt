@@ -11,7 +11,7 @@ use Rattle.explicit_kernel.specs.declared.verify.Verdict.TheVariants.{Accepted}
 use Rattle.explicit_kernel.specs.declared.verify.VerifyRefusal.{VerifyRefusal}
 use Rattle.explicit_kernel.specs.declared.verify.Stop.{Stop}
 use Rattle.explicit_kernel.specs.declared.verify.Stop.TheVariants.{Rejected, Refused, OutOfMemory}
-use Rattle.explicit_kernel.specs.Progress.{Advances, StopsAt}
+use Rattle.explicit_kernel.specs.Progress.{Advances, ComesTo}
 use Rattle.explicit_kernel.specs.Check.{IsRight, IsStoppedFrom, IsAnswerTo}
 use Rattle.explicit_kernel.proofs.Advancing.{Advances-more}
 
@@ -27,9 +27,9 @@ IsRight-accepted f q n v closed a (e, empty) = subst (λ (w : Verdict). IsRight 
 
 -- a check that stopped is answered rightly
 pub IsRight-stopped : (f : Formula) (old new : check.Check) (stop : Stop) (answer : Result Verdict VerifyRefusal) → IsAnswerTo stop answer → IsStoppedFrom old new stop → Advances (start_of f) 0 old.play.pending old.play.fitted → IfOk answer (IsRight f)
-IsRight-stopped f old new (Rejected k) answer e (m, (q, n, more, l, why)) a = rw e (go (Advances-more (start_of f) old.play.pending q 0 old.play.fitted n a more))
+IsRight-stopped f old new (Rejected k) answer e (m, (q, n, more, l)) a = rw e (go (Advances-more (start_of f) old.play.pending q 0 old.play.fitted n a more))
   where
-    go : Advances (start_of f) 0 q n → StopsAt f k
-    go (steps, ps, c) = (steps, q, ps, omega arith, why)
+    go : Advances (start_of f) 0 q n → ComesTo f k
+    go (steps, ps, c) = (steps, q, ps, omega arith)
 IsRight-stopped f old new (Refused r) answer e s a = rw e tt
 IsRight-stopped f old new OutOfMemory answer e s a = rw e tt

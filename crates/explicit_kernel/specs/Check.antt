@@ -1,11 +1,13 @@
 -- A certificate that is being checked.
-use Rattle.std.specs.Prelude.{◌≡◌, ◌≢◌, ◌⊎◌, ℕ, ◌+◌, ◌≤◌, [], List, Result, Ok, Err}
+use Rattle.std.specs.Prelude.{◌≡◌, ◌≢◌, ◌⊎◌, ℕ, ◌+◌, ◌≤◌, [], List, Option, Result, Ok, Err}
 use Rattle.polarised_formulas.specs.Formula.{Formula}
 use Rattle.lkf_rules.specs.Sequent.{Levelled}
 use Rattle.lkf_rules.specs.Derivation.{IsDerivable}
 use Rattle.explicit_kernel.specs.Pending.{AreLow}
-use Rattle.explicit_kernel.specs.Progress.{Advances, Misfits, HasSpelling, StopsAt}
-use Rattle.fpc_base.specs.Outside.{Rose}
+use Rattle.explicit_kernel.specs.Progress.{Advances, HasSpelling, ComesTo}
+use Rattle.fpc_base.specs.Outside.{Rose, IsAtEnd}
+use Rattle.fpc_base.specs.declared.refusal.Refusal.{Refusal}
+use Rattle.fpc_base.specs.declared.refusal.Code.TheVariants.{NotBuilt, TooLarge}
 use Rattle.explicit_kernel.specs.declared.verify.Verdict.{Verdict}
 use Rattle.explicit_kernel.specs.declared.verify.Verdict.TheVariants.{Accepted, Rejected as RejectedAt}
 use Rattle.explicit_kernel.specs.declared.verify.VerifyRefusal.{VerifyRefusal}
@@ -34,23 +36,27 @@ pub record IsUnderWay (c : check.Check) : Type 0 where
 abbrev pub HasTicks : check.Check → check.Check → ℕ → ℕ → Type 0
 HasTicks old new before now = now + old.play.fitted ≡ before + new.play.fitted
 
--- the check stopped: a rejection tells the next step, at which what was pending can't be played on as it should; a refusal's place is within the most bytes that there may be
+-- a refusal of a certificate at this stage: of what can't be read yet, or for its size
+abbrev pub IsPlainRefusal : Refusal → Type 0
+IsPlainRefusal r = ((r.code ≡ NotBuilt) × (r.at ≤ 67108864)) ⊎ ((r.code ≡ TooLarge) × (r.at ≡ 67108864))
+
+-- the check stopped: a rejection tells the number of the next step
 abbrev pub IsStopped : check.Check → check.Check → Stop → Type 0
-IsStopped old new (Rejected k) = (old.play.fitted + 1 ≡ k) × (new.play.fitted ≡ old.play.fitted) × (Misfits old.play.pending ⊎ (old.play.pending ≢ []))
-IsStopped old new (Refused r) = r.at ≤ 67108864
+IsStopped old new (Rejected k) = (old.play.fitted + 1 ≡ k) × (new.play.fitted ≡ old.play.fitted)
+IsStopped old new (Refused r) = IsPlainRefusal r
 IsStopped old new OutOfMemory = Unit {0}
 
 -- the check stopped somewhere behind
 abbrev pub IsStoppedFrom : check.Check → check.Check → Stop → Type 0
 IsStoppedFrom old new (Rejected k) =
-    (new.play.fitted + 1 ≡ k) × ((q : List Levelled) × (n : ℕ) × Advances old.play.pending old.play.fitted q n × (n + 1 ≡ k) × (Misfits q ⊎ (q ≢ [])))
-IsStoppedFrom old new (Refused r) = r.at ≤ 67108864
+    (new.play.fitted + 1 ≡ k) × ((q : List Levelled) × (n : ℕ) × Advances old.play.pending old.play.fitted q n × (n + 1 ≡ k))
+IsStoppedFrom old new (Refused r) = IsPlainRefusal r
 IsStoppedFrom old new OutOfMemory = Unit {0}
 
 -- a verdict is right for the goal
 abbrev pub IsRight : Formula → Verdict → Type 0
 IsRight f (Accepted n) = HasSpelling f n × IsDerivable f
-IsRight f (RejectedAt k) = StopsAt f k
+IsRight f (RejectedAt k) = ComesTo f k
 
 -- a tick for each step that fits
 abbrev pub HasTicked : ℕ → ℕ → Verdict → Type 0
@@ -59,7 +65,7 @@ HasTicked before now (RejectedAt k) = now + 1 ≡ before + k
 
 -- why there is no verdict, by the counts of faults before and now
 abbrev pub HasReason : ℕ → ℕ → VerifyRefusal → Type 0
-HasReason before now (RefusedAt r) = (now ≡ before) × (r.at ≤ 67108864)
+HasReason before now (RefusedAt r) = (now ≡ before) × IsPlainRefusal r
 HasReason before now ReadFault = Rose before now
 HasReason before now NoMemory = now ≡ before
 
@@ -68,3 +74,8 @@ abbrev pub IsAnswerTo : Stop → Result Verdict VerifyRefusal → Type 0
 IsAnswerTo (Rejected k) answer = answer ≡ Ok (RejectedAt k)
 IsAnswerTo (Refused r) answer = answer ≡ Err (RefusedAt r)
 IsAnswerTo OutOfMemory answer = answer ≡ Err NoMemory
+
+-- an accepted source was read to its end
+abbrev pub EndsAt : Option (List ℕ) → Verdict → Type 0
+EndsAt left (Accepted n) = IsAtEnd left
+EndsAt left (RejectedAt k) = Unit {0}

@@ -19,14 +19,10 @@ IsProperLine End = Unit {0}
 abbrev pub Advances : List Levelled → ℕ → List Levelled → ℕ → Type 0
 Advances q n r m = (steps : List code.Step) × Plays q steps r × (n + length steps ≡ m)
 
--- a step does not fit the list
-abbrev pub Misfits : List Levelled → Type 0
-Misfits q = (step : code.Step) × IsProperStep Lkf step × ((r : List Levelled) → PlaysOne q step r → ⊥)
-
 -- the goal has a spelling of so many steps
 abbrev pub HasSpelling : Formula → ℕ → Type 0
 HasSpelling f n = (steps : List code.Step) × IsSpelling f steps × (length steps ≡ n)
 
--- Steps play the goal's root up to the one with this number, counted from 1, and there a step does not fit or is missing.
-abbrev pub StopsAt : Formula → ℕ → Type 0
-StopsAt f k = (steps : List code.Step) × (q : List Levelled) × Plays (start_of f) steps q × (length steps + 1 ≡ k) × (Misfits q ⊎ (q ≢ []))
+-- Some steps play the goal's root up to the one with this number, counted from 1. Which step comes there is not said.
+abbrev pub ComesTo : Formula → ℕ → Type 0
+ComesTo f k = (steps : List code.Step) × (q : List Levelled) × Plays (start_of f) steps q × (length steps + 1 ≡ k)

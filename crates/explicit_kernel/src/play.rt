@@ -1,10 +1,11 @@
 //! The steps of a certificate as they come, played against a goal.
-ghost use Rattle.std.specs.Prelude.{◌≡◌, ◌+◌, ◌-◌, ◌^◌, ◌<◌, ◌≤◌, ◌≢◌, [], OnOk, OnErr, IfOk, Err};
-ghost use Rattle.lkf_rules.specs.Play.{start_of};
+ghost use Rattle.std.specs.Prelude.{◌≡◌, ◌↔◌, List, ◌+◌, ◌-◌, ◌^◌, ◌<◌, ◌≤◌, ◌≢◌, [], OnOk, OnErr, IfOk, Err};
+ghost use Rattle.lkf_rules.specs.Sequent.{Levelled};
+ghost use Rattle.lkf_rules.specs.Play.{PlaysOne, start_of};
 ghost use Rattle.polarised_formulas.specs.declared.logic.Logic.TheVariants.{Lkf};
 ghost use Rattle.polarised_formulas.specs.Step.{IsProperStep};
 ghost use Rattle.explicit_kernel.specs.Pending.{AreLow};
-ghost use Rattle.explicit_kernel.specs.Progress.{Advances, Misfits};
+ghost use Rattle.explicit_kernel.specs.Progress.{Advances};
 
 use crate::pending::Pending;
 use fpc_base::outside::OutOfMemory;
@@ -49,7 +50,7 @@ impl Play {
         ensures low { OnOk result (AreLow self.new.fitted self.new.pending) }
         ensures one { OnOk result (self.new.fitted ≡ self.old.fitted + 1) }
         ensures ticks { OnOk result (steps.new ≡ steps.old + 1) }
-        ensures unfit { result ≡ Err StepRefusal.DoesNotFit → Misfits self.old.pending }
+        ensures unfit { result ≡ Err StepRefusal.DoesNotFit ↔ ((r : List Levelled) → PlaysOne self.old.pending step.now r → ⊥) }
         ensures none { OnErr result (self.new.fitted ≡ self.old.fitted) }
         ensures no_tick { OnErr result (steps.new ≡ steps.old) }
     {

@@ -7,7 +7,7 @@ ghost use Rattle.lkf_rules.specs.Derivation.{IsDerivable};
 ghost use Rattle.lkf_rules.specs.Play.{start_of};
 ghost use Rattle.polarised_formulas.specs.declared.logic.Logic.TheVariants.{Lkf};
 ghost use Rattle.explicit_kernel.specs.Progress.{Advances, HasSpelling};
-ghost use Rattle.explicit_kernel.specs.Check.{IsUnderWay, IsStopped, IsStoppedFrom, IsAnswerTo, IsRight, HasTicked, HasReason, HasTicks};
+ghost use Rattle.explicit_kernel.specs.Check.{IsUnderWay, IsPlainRefusal, IsStopped, IsStoppedFrom, IsAnswerTo, IsRight, HasTicked, HasReason, EndsAt, HasTicks};
 
 use crate::lines::{HEADER, LONGEST, Line, line_of};
 use crate::play::Play;
@@ -40,7 +40,7 @@ pub enum Verdict {
 /// Why there is no verdict.
 #[derive(Clone, Copy, PartialEq, Eq, Debug)]
 pub enum VerifyRefusal {
-    /// The bytes are no explicit certificate.
+    /// The bytes are no explicit certificate, or none that can be read yet.
     Refused(Refusal),
     /// A read failed, and the bytes before show neither a refusal nor a rejection.
     ReadFault,
@@ -79,7 +79,8 @@ struct Check {
 
 /// The refusal of something that can't be read yet.
 fn not_built(at: usize) -> Refusal
-    ensures { result.at ≡ at }
+    ensures at { result.at ≡ at }
+    ensures code { result.code ≡ Code.NotBuilt }
 {
     Refusal {
         code: Code::NotBuilt,
@@ -276,7 +277,7 @@ impl Check {
     fn finished(&self) -> Result<Verdict, Refusal>
         requires under_way { IsUnderWay self.now }
         ensures verdict { IfOk result (λ v. (v ≡ Verdict.Accepted self.now.play.fitted) × (self.now.play.pending ≡ [])) }
-        ensures place { IfErr result (λ r. r.at ≤ LIMIT) }
+        ensures refusal { IfErr result IsPlainRefusal }
     {
         match self.part {
             Part::Nothing => Ok(Verdict::Accepted {
@@ -314,6 +315,8 @@ fn verify_through<S: Source, L: Ledger>(
     ensures reason { IfErr result (HasReason (S.faults source.old) (S.faults source.new)) }
     ensures never_falls { S.faults source.old ≤ S.faults source.new }
     ensures content { S.content source.new ≡ S.content source.old }
+    ensures end { IfOk result (EndsAt (S.left source.new)) }
+    ensures calls { S.calls source.new ≤ S.calls source.old + LIMIT + 1 }
 {
     let mut check = match Check::start(alloc, goal) {
         Ok(check) => check,
@@ -350,21 +353,20 @@ pub fn verify<S: Source, L: Ledger>(
 ) -> Result<Verdict, VerifyRefusal>
     requires logic { problem.now.logic ≡ Lkf }
     requires closed { IsClosed problem.now.goal }
+    requires lkf { IsLkf problem.now.goal }
     ensures verdict { IfOk result (IsRight problem.now.goal) }
     ensures ticks { IfOk result (HasTicked steps.old steps.new) }
     ensures count { OnOk result (S.faults source.new ≡ S.faults source.old) }
     ensures reason { IfErr result (HasReason (S.faults source.old) (S.faults source.new)) }
     ensures never_falls { S.faults source.old ≤ S.faults source.new }
     ensures content { S.content source.new ≡ S.content source.old }
+    ensures end { IfOk result (EndsAt (S.left source.new)) }
+    ensures calls { S.calls source.new ≤ S.calls source.old + LIMIT + 1 }
+    ensures names { _names.new ≡ _names.old }
 {
-    match vec![in alloc; 0u8; PIECE] {
-        Ok(mut buffer) => verify_through(
-            alloc,
-            &problem.goal,
-            source,
-            buffer.as_mut_slice(),
-            steps,
-        ),
-        Err(_) => Err(VerifyRefusal::OutOfMemory),
-    }
+    let mut buffer = match vec![in alloc; 0u8; PIECE] {
+        Ok(buffer) => buffer,
+        Err(_) => return Err(VerifyRefusal::OutOfMemory),
+    };
+    verify_through(alloc, &problem.goal, source, buffer.as_mut_slice(), steps)
 }

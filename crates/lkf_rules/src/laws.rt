@@ -1,5 +1,5 @@
 //! Laws of play, spellings and derivations. The functions do nothing: their contracts say the laws.
-ghost use Rattle.lkf_rules.specs.Laws.{PlayIsSpelling, PlayIsSound, HasOneNodeAStep, PlaysToOneList, SpellsOneTree, HasOneSpelling, KeepsUnderExchange};
+ghost use Rattle.lkf_rules.specs.Laws.{PlayIsSpelling, PlayIsSound, HasOneNodeAStep, PlaysToOneList, SpellsOneTree, HasOneSpelling, KeepsUnderExchange, NamesAnInstance, KeepsLkf, RootIsInScope};
 
 /// Steps play a closed goal out exactly where they are the preorder of a certificate that spells a derivation of the goal.
 pub fn play()
@@ -27,4 +27,11 @@ pub fn determinacy()
 /// The order of the stored formulas does not matter: with them in another order, a sequent that has a derivation has one with as many nodes.
 pub fn exchange()
     ensures { KeepsUnderExchange }
+{}
+
+/// The premises that a step names at a sequent are those of an instance of a rule. Scope and logic are kept from the root on.
+pub fn instances()
+    ensures instance { NamesAnInstance }
+    ensures logic { KeepsLkf }
+    ensures root { RootIsInScope }
 {}

@@ -57,7 +57,7 @@ fn answer_to(alloc: Global, sequent: &Sequent, step: &Step) -> Result<Premises, 
     }
 }
 
-/// The premises of the instance of a rule of LKF that a step names at a sequent, each with its level; the rules are those of Liang and Miller.
+/// The premises of the instance of a rule of LKF that a step names at a sequent, each with its level; the rules are after Liang and Miller.
 /// A place counts the stored formulas from 0, the eigenvariable of `all` is the sequent's level, and the term of `some` and the formula of `cut` are
 /// in scope at that level. Time and memory are linear in the sizes of the sequent, the step and the premises.
 #[tactic(auto, using(crate::proofs::StepFacts::answer_facts))]

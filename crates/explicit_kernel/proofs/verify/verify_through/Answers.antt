@@ -11,6 +11,7 @@ loop-check-init g c = (
   omega (arith, c.in-Ok.ensures.fitted),
   refl,
   refl,
+  omega arith,
 )
 
 pub returns-in-Ok-finished-clause-verdict : goal.returns-in-Ok-finished-clause-verdict
@@ -24,6 +25,7 @@ loop-check-preserved g c = (
   omega (arith, c.in-Ok-take_piece.ensures.ticks, c.loop-check.invariant.2),
   cc (c.in-Ok-read.ensures.ok_count, c.loop-check.invariant.3),
   cc (c.in-Ok-read.ensures.content, c.loop-check.invariant.4),
+  omega (arith, c.in-Ok-read.ensures.calls, c.in-Ok-read.n-test, c.in-Ok-take_piece.ensures.at, c.split_at.ensures.front_len, c.loop-check.invariant.5),
 )
 
 pub returns-in-Err-take_piece-clause-verdict : goal.returns-in-Err-take_piece-clause-verdict

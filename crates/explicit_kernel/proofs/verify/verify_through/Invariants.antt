@@ -1,4 +1,4 @@
-use Rattle.std.proofs.Common.{◌≡◌, ◌+◌, ◌-◌}
+use Rattle.std.proofs.Common.{◌≡◌, ◌≤◌, ◌+◌, ◌-◌}
 use Rattle.lkf_rules.specs.Play.{start_of}
 use Rattle.explicit_kernel.specs.Progress.{Advances}
 use Rattle.explicit_kernel.specs.Check.{IsUnderWay}
@@ -11,6 +11,7 @@ invariant-loop-check g l =
     × (l.steps ≡ l.initial.steps + l.check.play.fitted)
     × (g.S.Source.faults l.source ≡ g.S.Source.faults l.initial.source)
     × (g.S.Source.content l.source ≡ g.S.Source.content l.initial.source)
+    × (g.S.Source.calls l.source ≤ g.S.Source.calls l.initial.source + l.check.at)
 
 abbrev pub decreases-loop-check : goal.decreases-loop-check
 decreases-loop-check g l = 67108865 - l.check.at
