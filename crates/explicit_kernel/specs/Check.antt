@@ -1,5 +1,5 @@
 -- A certificate that is being checked.
-use Rattle.std.specs.Prelude.{◌≡◌, ◌≢◌, ◌⊎◌, ℕ, ◌+◌, ◌≤◌, [], List, Option, Result, Ok, Err}
+use Rattle.std.specs.Prelude.{◌≡◌, ◌⊎◌, ℕ, ◌+◌, ◌≤◌, [], List, Option, Result, Ok, Err}
 use Rattle.polarised_formulas.specs.Formula.{Formula}
 use Rattle.lkf_rules.specs.Sequent.{Levelled}
 use Rattle.lkf_rules.specs.Derivation.{IsDerivable}

@@ -1,9 +1,12 @@
 -- Why the program answers as it does, and what it writes.
-use Rattle.std.specs.Prelude.{◌≡◌, ◌≢◌, ◌⊎◌, ℕ, ◌≤◌, List, Option, Result, Ok, Err}
+use Rattle.std.specs.Prelude.{◌≡◌, ◌≢◌, ◌⊎◌, ℕ, List, Option, Result, Ok, Err}
 use Rattle.fpc_base.specs.Outside.{Content, missing, Rose, Adds, AddsPrefix}
-use Rattle.polarised_formulas.specs.Formula.{Formula, IsClosed}
+use Rattle.fpc_base.specs.declared.refusal.Refusal.{Refusal}
+use Rattle.fpc_base.specs.declared.refusal.Code.TheVariants.{NotBuilt, TooLarge}
+use Rattle.polarised_formulas.specs.Formula.{Formula, IsClosed, IsLkf}
 use Rattle.lkf_rules.specs.Derivation.{IsDerivable}
-use Rattle.explicit_kernel.specs.Progress.{HasSpelling, StopsAt}
+use Rattle.explicit_kernel.specs.Progress.{HasSpelling, ComesTo}
+use Rattle.explicit_kernel.specs.Check.{IsPlainRefusal}
 use Rattle.explicit_kernel.specs.declared.verify.Verdict.{Verdict}
 use Rattle.explicit_kernel.specs.declared.verify.Verdict.TheVariants.{Accepted as AcceptedBy, Rejected as RejectedAt}
 use Rattle.explicit_kernel.specs.declared.verify.VerifyRefusal.{VerifyRefusal}
@@ -11,7 +14,7 @@ use Rattle.explicit_kernel.specs.declared.verify.VerifyRefusal.TheVariants.{Refu
 use Rattle.fpc_cli.specs.declared.answer.Answer.{Answer}
 use Rattle.fpc_cli.specs.declared.answer.Answer.TheVariants.{Accepted, Rejected, Refused, Usage, ReadFault, OutOfMemory}
 use Rattle.fpc_cli.specs.declared.answer.Role.{Role}
-use Rattle.fpc_cli.specs.declared.answer.Role.TheVariants.{Problem, Definition, Certificate, Explicit, Atom, Native}
+use Rattle.fpc_cli.specs.declared.answer.Role.TheVariants.{Problem, Explicit}
 use Rattle.fpc_cli.specs.Command.{Asked, verify, usage}
 use Rattle.fpc_cli.specs.Answer.{answer_text, status_of}
 
@@ -21,18 +24,25 @@ HasFilesTo Problem (verify problem explicit) content = content problem ≢ missi
 HasFilesTo Explicit (verify problem explicit) content = (content problem ≢ missing) × (content explicit ≢ missing)
 HasFilesTo _ _ content = ⊥
 
--- one of the files is told as missing
+-- the first of the files that isn't there is told as missing
 abbrev pub MissesOne : Asked → (List ℕ → Content) → Type 0
-MissesOne (verify problem explicit) content = (content problem ≡ missing) ⊎ (content explicit ≡ missing)
+MissesOne (verify problem explicit) content = (content problem ≡ missing) ⊎ ((content problem ≢ missing) × (content explicit ≡ missing))
 MissesOne usage content = ⊥
 
--- An answer's cause, in what was asked, the files, and the counts of their faults before and now. A goal is a closed formula.
+-- a refusal that the files of this stage can get: of a problem at its beginning, or for its size; of a certificate as the kernel tells it
+abbrev pub IsRefusalOf : Role → Refusal → Type 0
+IsRefusalOf Problem refusal = (refusal ≡ record { code = NotBuilt; at = 0 }) ⊎ (refusal ≡ record { code = TooLarge; at = 16777216 })
+IsRefusalOf Explicit refusal = IsPlainRefusal refusal
+IsRefusalOf _ refusal = ⊥
+
+-- An answer's cause, in what was asked, which files are there, and the counts of their faults before and now. The goal is some closed formula of LKF: that it is
+-- the one that the problem's file spells is not said.
 abbrev pub IsCaused : Asked → (List ℕ → Content) → ℕ → ℕ → Answer → Type 0
 IsCaused asked content before now (Accepted n) =
-    HasFilesTo Explicit asked content × (now ≡ before) × ((goal : Formula) × IsClosed goal × HasSpelling goal n × IsDerivable goal)
+    HasFilesTo Explicit asked content × (now ≡ before) × ((goal : Formula) × IsClosed goal × IsLkf goal × HasSpelling goal n × IsDerivable goal)
 IsCaused asked content before now (Rejected k) =
-    HasFilesTo Explicit asked content × (now ≡ before) × ((goal : Formula) × IsClosed goal × StopsAt goal k)
-IsCaused asked content before now (Refused role refusal) = HasFilesTo role asked content × (now ≡ before) × (refusal.at ≤ 67108864)
+    HasFilesTo Explicit asked content × (now ≡ before) × ((goal : Formula) × IsClosed goal × IsLkf goal × ComesTo goal k)
+IsCaused asked content before now (Refused role refusal) = HasFilesTo role asked content × (now ≡ before) × IsRefusalOf role refusal
 IsCaused asked content before now Usage = (asked ≡ usage) × (now ≡ before)
 IsCaused asked content before now ReadFault = Rose before now ⊎ MissesOne asked content
 IsCaused asked content before now OutOfMemory = Unit {0}

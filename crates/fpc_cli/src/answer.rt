@@ -41,11 +41,11 @@ pub enum Answer {
     Accepted { steps: u64 },
     /// The certificate is wrong at the step of that number.
     Rejected { at: u64 },
-    /// A file was not read.
+    /// A file was refused.
     Refused { role: Role, refusal: Refusal },
     /// The program's words are no command.
     Usage,
-    /// A read failed.
+    /// A file is missing, or an opening or a read failed.
     ReadFault,
     /// There was no memory to find the answer.
     OutOfMemory,

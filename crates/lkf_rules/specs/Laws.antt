@@ -1,7 +1,7 @@
 -- Laws of play, spellings and derivations.
 use Rattle.std.specs.Prelude.{◌≡◌, ◌↔◌, ℕ, List, length, IsPermutation}
 use Rattle.polarised_formulas.specs.declared.step.Step.{Step}
-use Rattle.std.specs.Prelude.{map, Option, Some}
+use Rattle.std.specs.Prelude.{map, Some}
 use Rattle.std.specs.List.{AllByRecursion}
 use Rattle.polarised_formulas.specs.declared.logic.Logic.TheVariants.{Lkf}
 use Rattle.polarised_formulas.specs.Step.{IsProperStep}

@@ -1,8 +1,8 @@
 use Rattle.fpc_cli.specs.declared.answer.Answer.TheVariants.{OutOfMemory}
 use Rattle.fpc_cli.proofs.run.run.Goals as goal
 
-pub returns-in-Err : goal.returns-in-Err
-returns-in-Err g c = record {
+pub returns-in-Err-clause-answered : goal.returns-in-Err-clause-answered
+returns-in-Err-clause-answered g c = record {
   answer = OutOfMemory;
   caused = tt;
   written = rw (c.status-in-Err.ensures, c.as_bytes-in-Err.ensures.value) at c.write-in-Err.ensures;
