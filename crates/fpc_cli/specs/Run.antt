@@ -44,7 +44,7 @@ IsCaused asked content before now (Rejected k) =
     HasFilesTo Explicit asked content × (now ≡ before) × ((goal : Formula) × IsClosed goal × IsLkf goal × ComesTo goal k)
 IsCaused asked content before now (Refused role refusal) = HasFilesTo role asked content × (now ≡ before) × IsRefusalOf role refusal
 IsCaused asked content before now Usage = (asked ≡ usage) × (now ≡ before)
-IsCaused asked content before now ReadFault = Rose before now ⊎ MissesOne asked content
+IsCaused asked content before now ReadFault = (asked ≢ usage) × (Rose before now ⊎ MissesOne asked content)
 IsCaused asked content before now OutOfMemory = Unit {0}
 
 -- the sink took the whole text of the answer, or its count rose and it took a part from the front
