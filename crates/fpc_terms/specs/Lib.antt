@@ -1,3 +1,4 @@
 pub mod Name
 pub mod Term
 pub mod Scope
+pub mod Text

@@ -35,6 +35,14 @@ AreDifferent names = (i j : ℕ) (text : List ℕ) → slice_get names i ≡ Som
 abbrev pub IsInterned : List (List ℕ) → List ℕ → List (List ℕ) → Type 0
 IsInterned old text new = (HasName old text × (new ≡ old)) ⊎ (¬ (HasName old text) × (new ≡ old ++ text ∷ []))
 
+-- the numbering gives each name of the table its place
+abbrev pub Agrees : (List ℕ → ℕ) → List (List ℕ) → Type 0
+Agrees number names = (k : ℕ) (text : List ℕ) → slice_get names k ≡ Some text → number text ≡ k
+
+-- each name of the old table has the same place in the new one
+abbrev pub Grows : List (List ℕ) → List (List ℕ) → Type 0
+Grows old new = (k : ℕ) (text : List ℕ) → slice_get old k ≡ Some text → slice_get new k ≡ Some text
+
 -- the number that the map has for a text
 abbrev pub number_of : BTreeMap (Vec ℕ) ℕ → List ℕ → Option ℕ
 number_of numbers text = get_by (λ k. slice_cmp nat_cmp text k.items) numbers

@@ -3,3 +3,4 @@ pub mod Reading
 pub mod Nodes
 pub mod Opened
 pub mod Step
+pub mod Text
