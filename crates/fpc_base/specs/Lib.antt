@@ -2,3 +2,4 @@ pub mod Outside
 pub mod Memory
 pub mod Refusal
 pub mod Tokens
+pub mod Lexeme
