@@ -3,3 +3,4 @@ pub mod Memory
 pub mod Refusal
 pub mod Tokens
 pub mod Lexeme
+pub mod Reading

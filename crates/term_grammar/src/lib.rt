@@ -1,0 +1,2 @@
+//! The grammar of terms.
+#![tactic(auto)]
