@@ -44,3 +44,7 @@ run known s (c ∷ cs) = run known (step known s c) cs
 abbrev pub is_full : TermState → Bool
 is_full (wants s) = nat_eq (length (done_at s)) 255
 is_full _ = false
+
+abbrev pub IsLive : TermState → Type 0
+IsLive stuck = ⊥
+IsLive _ = Unit {0}

@@ -1,0 +1,4 @@
+//! The grammar of formulas and problems.
+#![tactic(auto)]
+
+pub mod connective;
