@@ -72,17 +72,17 @@ IsBehind [] = ⊥
 IsBehind (a_sign OpenParenthesis ∷ rest) = ⊥
 IsBehind (c ∷ rest) = Unit {0}
 
-more-behind : (ts : WrittenArgs) (rest : List Lexeme) → IsBehind (more_tokens ts rest)
+pub more-behind : (ts : WrittenArgs) (rest : List Lexeme) → IsBehind (more_tokens ts rest)
 more-behind no_words rest = tt
 more-behind (words t ts) rest = tt
 
-named-behind : (known : List ℕ → Bool) (x : List ℕ) (s : Spot) (rest : List Lexeme) → IsBehind rest → run known (named x s) rest ≡ run known (has (application x no_words) s) rest
+pub named-behind : (known : List ℕ → Bool) (x : List ℕ) (s : Spot) (rest : List Lexeme) → IsBehind rest → run known (named x s) rest ≡ run known (has (application x no_words) s) rest
 named-behind known x s [] b = absurd b
 named-behind known x s (a_sign OpenParenthesis ∷ rest) b = absurd b
 named-behind known x s (c ∷ rest) b = refl
 
 mutual
-  run-term : (known : List ℕ → Bool) (u : WrittenTerm) (s : Spot) (rest : List Lexeme) → IsKnown known u → IsBehind rest
+  pub run-term : (known : List ℕ → Bool) (u : WrittenTerm) (s : Spot) (rest : List Lexeme) → IsKnown known u → IsBehind rest
       → run known (wants s) (term_tokens u rest) ≡ run known (has u s) rest
   run-term known (variable_word x) s rest h b = ap (λ (t : Bool). run known (if t then has (variable_word x) s else stuck) rest) h
   run-term known (application x no_words) s rest h b = named-behind known x s rest b
@@ -90,7 +90,7 @@ mutual
       run-term known t (in_term x [] s) (more_tokens ts rest) h.0 (more-behind ts rest) ∙ run-more known x [] t ts s rest h.1
 
   -- further arguments of a term
-  run-more : (known : List ℕ → Bool) (x : List ℕ) (ds : List WrittenTerm) (u : WrittenTerm) (ts : WrittenArgs) (s : Spot) (rest : List Lexeme) → AreKnown known ts
+  pub run-more : (known : List ℕ → Bool) (x : List ℕ) (ds : List WrittenTerm) (u : WrittenTerm) (ts : WrittenArgs) (s : Spot) (rest : List Lexeme) → AreKnown known ts
       → run known (has u (in_term x ds s)) (more_tokens ts rest) ≡ run known (has (application x (args_with ds (words u ts))) s) rest
   run-more known x ds u no_words s rest h = refl
   run-more known x ds u (words t ts) s rest h =
@@ -161,7 +161,7 @@ inner_spot-append (in_term x ds s) xs rest =
 pub inner_tokens_to-append : (s : Spot) (rest : List Lexeme) → inner_tokens_to s rest ≡ inner_tokens_to s [] ++ rest
 inner_tokens_to-append s rest = inner_spot-append s [] rest
 
-run-done : (known : List ℕ → Bool) (x : List ℕ) (ds : List WrittenTerm) (s : Spot) (rest : List Lexeme) → AllKnown known ds
+pub run-done : (known : List ℕ → Bool) (x : List ℕ) (ds : List WrittenTerm) (s : Spot) (rest : List Lexeme) → AllKnown known ds
     → run known (named x s) (done_tokens ds rest) ≡ run known (wants (in_term x ds s)) rest
 run-done known x [] s rest h = refl
 run-done known x (d ∷ ds) s rest h = run-done known x ds s (term_tokens d (a_sign Comma ∷ rest)) h.1 ∙ run-term known d (in_term x ds s) (a_sign Comma ∷ rest) h.0 tt

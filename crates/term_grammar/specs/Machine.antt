@@ -1,5 +1,8 @@
 -- A machine that reads the tokens of a term, one after another, and keeps all that it read.
-use Rattle.std.specs.Prelude.{◌≡◌, ℕ, Bool, true, false, if◌then◌else◌, List, [], ◌∷◌, length, nat_eq}
+use Rattle.std.specs.Prelude.{ℕ, Bool, true, false, not, ◌&&◌, if◌then◌else◌, List, [], ◌∷◌, length, Option, Some, None, Result, Ok, Err, nat_eq, nat_le}
+use Rattle.fpc_base.specs.declared.refusal.Code.{Code}
+use Rattle.fpc_base.specs.declared.refusal.Code.TheVariants.{Unexpected, ManyArguments, ManyVariables}
+use Rattle.fpc_base.specs.Tokens.{is_one_of}
 use Rattle.fpc_base.specs.declared.tokens.lexeme.Sign.TheVariants.{OpenParenthesis, CloseParenthesis, Comma}
 use Rattle.fpc_base.specs.Lexeme.{Lexeme, a_name, a_variable, a_sign}
 use Rattle.term_grammar.specs.Written.{WrittenTerm, WrittenArgs, variable_word, application, no_words, words}
@@ -48,3 +51,34 @@ is_full _ = false
 abbrev pub IsLive : TermState → Type 0
 IsLive stuck = ⊥
 IsLive _ = Unit {0}
+
+-- the whole term, where the tokens so far are one by itself
+abbrev pub whole_of : TermState → Option WrittenTerm
+whole_of (has u alone) = Some u
+whole_of (named x alone) = Some (application x no_words)
+whole_of _ = None
+
+-- a variable that is none of those, where there are as many as may be
+abbrev pub is_too_many : Option ℕ → List (List ℕ) → Lexeme → Bool
+is_too_many (Some most) variables (a_variable x) = not (is_one_of variables x) && nat_le most (length variables)
+is_too_many _ _ _ = false
+
+-- the next state, within the limits
+abbrev pub within : (full many : Bool) → TermState → Result TermState Code
+within full many stuck = Err Unexpected
+within true many s = Err ManyArguments
+within false true s = Err ManyVariables
+within false false s = Ok s
+
+-- one token, with the limits, behind so many variables
+abbrev pub limited : (List ℕ → Bool) → Option ℕ → List (List ℕ) → TermState → Lexeme → Result TermState Code
+limited known most variables s c = within (is_full (step known s c)) (is_too_many most variables c) (step known s c)
+
+-- a term by itself is whole, and nothing goes on behind it
+abbrev pub is_final : TermState → Bool
+is_final (has u alone) = true
+is_final _ = false
+
+abbrev pub is_open : Lexeme → Bool
+is_open (a_sign OpenParenthesis) = true
+is_open _ = false
