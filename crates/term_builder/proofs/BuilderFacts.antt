@@ -1,11 +1,11 @@
 -- What the cells of a partial term are like.
-use Rattle.std.proofs.Common.{◌≡◌, ℕ, suc, ◌+◌, ◌<◌, ◌≤◌, List, [], ◌∷◌, ◌++◌, length, take, drop, refl, sym, ap, ◌∙◌, subst, arith, append-nil, append_assoc, length-append}
-use Rattle.std.specs.Prelude.{Option, Some, None, slice_index_or, slice_set}
+use Rattle.std.proofs.Common.{◌≡◌, ℕ, suc, ◌+◌, ◌<◌, List, [], ◌∷◌, ◌++◌, length, take, drop, refl, sym, ap, ◌∙◌, subst, arith, append-nil}
+use Rattle.std.specs.Prelude.{Some, slice_index_or, slice_set}
 use Rattle.std.proofs.Math.Seq.{take-append_seam, drop-append_seam, get_or-append_seam, set-append_seam}
 use Rattle.fpc_terms.specs.declared.cell.Cell.{Cell}
-use Rattle.fpc_terms.specs.declared.cell.Cell.TheVariants.{Eigen, Bound, Var, App}
+use Rattle.fpc_terms.specs.declared.cell.Cell.TheVariants.{App}
 use Rattle.fpc_terms.specs.Term.{Term, Args, eigen, bound, variable, app, no_args, arg, count, cells_before, all_before, cells_of, terms_from, terms_from-cells_before, term_of, term_of-cells_of, IsOneTerm}
-use Rattle.term_builder.specs.Partial.{Frame, Partial, args_onto, args_of_frame, with_term, opened, closed, innermost, only_term, done_cells, flat, positions, turned, terms_of, frame_of, base_of, frames_of, partial_of, HaveRoom, Is, IsPartial, IsBefore, StandsAt, leaf_term}
+use Rattle.term_builder.specs.Partial.{Frame, Partial, args_onto, args_of_frame, with_term, opened, closed, innermost, only_term, done_cells, flat, positions, turned, terms_of, frame_of, base_of, frames_of, partial_of, Is, IsPartial, IsBefore, StandsAt}
 
 mutual
   pub cells_before-append : (t : Term) (xs ys : List Cell) → cells_before t xs ++ ys ≡ cells_before t (xs ++ ys)
@@ -188,3 +188,13 @@ IsOneTerm-only cs is n (t ∷ []) [] h one none =
     (ap cells_of value ∙ sym cells, ap Some (sym value))
 IsOneTerm-only cs is n (t ∷ u ∷ ts) [] h one none = absurd (omega (arith, h.whole))
 IsOneTerm-only cs is n base (f ∷ fs) h one none = cc
+
+-- what is known of the fields and of their value
+pub IsPartial-at : (cs : List Cell) (is : List ℕ) (n : ℕ) (z : Partial) → IsPartial cs is n (partial_of cs is) → partial_of cs is ≡ z → IsPartial cs is n z
+IsPartial-at cs is n z h e = subst (λ (w : Partial). IsPartial cs is n w) e h
+
+pub value-from_IsPartial : (cs : List Cell) (is : List ℕ) (n : ℕ) (z : Partial) → IsPartial cs is n z → partial_of cs is ≡ z
+value-from_IsPartial cs is n z h = partial_of-from_Is cs is n z.base z.frames h
+
+pub invariant-from_IsPartial : (cs : List Cell) (is : List ℕ) (n : ℕ) (z : Partial) → IsPartial cs is n z → IsPartial cs is n (partial_of cs is)
+invariant-from_IsPartial cs is n z h = IsPartial-from_Is cs is n z.base z.frames h

@@ -227,8 +227,9 @@ impl TermBuilder {
         if !self.has_room() {
             return Ok(false);
         }
+        let place = self.cells.len();
         self.cells.reserve(1)?;
-        self.places.push(self.cells.len())?;
+        self.places.push(place)?;
         self.cells.push(Cell::App(name, 0))?;
         Ok(true)
     }
@@ -278,5 +279,53 @@ impl TermBuilder {
             Ok(term) => Ok(Some(term)),
             Err(error) => Err(error),
         }
+    }
+}
+
+#[cfg(test)]
+mod tests {
+    use super::*;
+    use fpc_terms::names::Names;
+    use std::test::Fail;
+
+    #[test]
+    fn applications_get_their_arguments(rt: HostRuntime) -> Result<(), Fail> {
+        let mut names = Names::new(rt.alloc());
+        let f = names.intern(b"f")?;
+        let a = names.intern(b"a")?;
+        let g = names.intern(b"g")?;
+        let b = names.intern(b"b")?;
+        let mut terms = TermBuilder::new(rt.alloc());
+        assert!(rt; terms.has_room());
+        assert!(rt; terms.open_application(f)?);
+        assert!(rt; terms.constant(a)?);
+        assert!(rt; !terms.is_closed());
+        assert!(rt; terms.open_application(g)?);
+        assert!(rt; terms.constant(b)?);
+        terms.close();
+        assert!(rt; terms.finish(rt.alloc())?.is_none());
+        terms.close();
+        assert!(rt; terms.is_closed());
+        assert_eq!(rt; terms.count(), 1);
+        let cells = [Cell::App(f, 2), Cell::App(a, 0), Cell::App(g, 1), Cell::App(b, 0)];
+        assert_eq!(rt; terms.cells(), cells.as_slice());
+        let term = terms.finish(rt.alloc())?.ok_or("no term")?;
+        assert_eq!(rt; term.cells(), cells.as_slice());
+        Ok(())
+    }
+
+    #[test]
+    fn terms_stand_one_after_another(rt: HostRuntime) -> Result<(), Fail> {
+        let mut terms = TermBuilder::new(rt.alloc());
+        assert!(rt; terms.eigen(3)?);
+        assert!(rt; terms.bound(1)?);
+        assert!(rt; terms.variable(2)?);
+        assert_eq!(rt; terms.count(), 3);
+        assert_eq!(rt; terms.cells(), [Cell::Eigen(3), Cell::Bound(1), Cell::Var(2)].as_slice());
+        assert!(rt; terms.finish(rt.alloc())?.is_none());
+        terms.clear();
+        assert_eq!(rt; terms.count(), 0);
+        assert!(rt; terms.cells().is_empty());
+        Ok(())
     }
 }

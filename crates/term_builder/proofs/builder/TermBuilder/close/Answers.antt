@@ -1,14 +1,17 @@
-use Rattle.std.proofs.Common.{rules, ◌≡◌, ℕ, ◌<◌, ◌+◌, ◌++◌, ◌∷◌, [], List, length, drop, IsTrue, IfOk, OnOk, OnErr, IfSome, IfNone, MatchOption, ◌↔◌, Some, ◌-◌, ◌*◌, ◌≤◌, ◌/◌, ◌%◌, Bool, true, false, nat_eq, nat_lt, slice_index_or, slice_set, bit_and, bit_or, Fits, w8, w32, w64, Bor, MutBor}
-use Rattle.fpc_terms.specs.Term.{Term, eigen, bound, variable, app, no_args, count, cells_of, all_before, cells_before}
-use Rattle.fpc_terms.specs.declared.cell.Cell.{Cell}
-use Rattle.fpc_terms.specs.declared.cell.Cell.TheVariants.{App}
-use Rattle.term_builder.specs.Partial.{Frame, Partial, args_of_frame, nothing, with_term, opened, closed, innermost, only_term, flat, leaf_term, IsBefore, IsPartial, StandsAt}
+use Rattle.std.proofs.Common.{refl}
+use Rattle.term_builder.specs.Partial.{closed, IsPartial}
+use Rattle.term_builder.proofs.BuilderFacts.{IsPartial-at, closing, value-from_IsPartial, invariant-from_IsPartial}
 use Rattle.term_builder.proofs.builder.TermBuilder.close.Goals as goal
 
--- src/builder.rt:241:13
-pub invariant_of-self : goal.invariant_of-self
-invariant_of-self c = ?
+-- what the fields are at the end
+ended : (c : goal.After-count_term) → IsPartial c.count_term.new.cells.items c.pop.new.self c.count_term.new.whole (closed c.args.self.now.base c.args.self.now.frames)
+ended c =
+    let h = IsPartial-at c.self.inside.cells.items c.self.inside.places c.self.inside.whole c.args.self.now c.self.invariant c.self.view_is in
+    let top = c.if-pop.ensures.some refl in
+    closing c.self.inside.cells.items c.count_term.new.cells.items c.self.inside.places top.0 c.pop.new.self c.self.inside.whole c.count_term.new.whole c.args.self.now.base c.args.self.now.frames h top.1 c.count_term.ensures
 
--- src/builder.rt:237:5
+pub invariant_of-self : goal.invariant_of-self
+invariant_of-self c = invariant-from_IsPartial _ _ _ _ (ended c)
+
 pub returns-then-pop : goal.returns-then-pop
-returns-then-pop c = ?
+returns-then-pop c = value-from_IsPartial _ _ c.count_term.new.whole _ (ended c)

@@ -1,10 +1,17 @@
-use Rattle.std.proofs.Common.{rules, ◌≡◌, ℕ, ◌<◌, ◌+◌, ◌++◌, ◌∷◌, [], List, length, drop, IsTrue, IfOk, OnOk, OnErr, IfSome, IfNone, MatchOption, ◌↔◌, Some, ◌-◌, ◌*◌, ◌≤◌, ◌/◌, ◌%◌, Bool, true, false, nat_eq, nat_lt, slice_index_or, slice_set, bit_and, bit_or, Fits, w8, w32, w64, Bor, MutBor}
-use Rattle.fpc_terms.specs.Term.{Term, eigen, bound, variable, app, no_args, count, cells_of, all_before, cells_before}
-use Rattle.fpc_terms.specs.declared.cell.Cell.{Cell}
-use Rattle.fpc_terms.specs.declared.cell.Cell.TheVariants.{App}
-use Rattle.term_builder.specs.Partial.{Frame, Partial, args_of_frame, nothing, with_term, opened, closed, innermost, only_term, flat, leaf_term, IsBefore, IsPartial, StandsAt}
+use Rattle.std.proofs.lemmas.Grind.{common_steps}
+use Rattle.std.proofs.Common.{arith, ◌≡◌, ◌<◌, refl, length}
+use Rattle.term_builder.specs.Partial.{opened, innermost, IsPartial}
+use Rattle.term_builder.proofs.BuilderFacts.{IsPartial-at, Is-opened, invariant-from_IsPartial}
 use Rattle.term_builder.proofs.builder.TermBuilder.open_application.Goals as goal
 
--- src/builder.rt:221:5
+-- what the fields are at the end
+done : (c : goal.In_ok-push-2) → IsPartial c.push-2.new.self.items c.push.new.self c.self.inside.whole (opened c.args.name c.args.self.now.base c.args.self.now.frames)
+done c =
+    let h = IsPartial-at c.self.inside.cells.items c.self.inside.places c.self.inside.whole c.args.self.now c.self.invariant c.self.view_is in
+    let few : innermost c.args.self.now.base c.args.self.now.frames < 255 = c.if-not-has_room.ensures.0 refl in
+    let h2 = Is-opened c.args.name c.self.inside.cells.items c.self.inside.places c.self.inside.whole c.args.self.now.base c.args.self.now.frames h few in
+    let place : c.len-place.result ≡ length c.self.inside.cells.items = grind (arith, common_steps) in
+    rw (c.in_ok-push-2.ensures.items, c.in_ok-push.ensures.ok, c.reserve.ensures.items, place) h2
+
 pub invariant_of-self-2 : goal.invariant_of-self-2
-invariant_of-self-2 c = ?
+invariant_of-self-2 c = invariant-from_IsPartial _ _ _ _ (done c)
