@@ -1,0 +1,6 @@
+//! Formulas that are built from the left.
+#![tactic(auto)]
+
+pub mod builder;
+
+pub use builder::{Binder, FormulaBuilder, Joiner};

@@ -1,0 +1,6 @@
+//! Terms that are built from the left.
+#![tactic(auto)]
+
+pub mod builder;
+
+pub use builder::TermBuilder;
