@@ -1,14 +1,15 @@
 -- What stands at the front is the longest token there.
-use Rattle.std.proofs.Common.{◌≡◌, ℕ, suc, zero, ◌+◌, ◌<◌, ◌≤◌, Bool, true, false, cond, if◌then◌else◌, not, ◌&&◌, ◌||◌, nat_eq, nat_le, nat_lt, List, [], ◌∷◌, length, take, drop, codes, refl, ap, subst, arith, ◌∙◌, sym, ◌⊎◌, inl, inr}
+use Rattle.std.proofs.Common.{◌≡◌, ℕ, suc, zero, ◌+◌, ◌-◌, ◌<◌, ◌≤◌, Bool, true, false, cond, if◌then◌else◌, not, ◌&&◌, ◌||◌, nat_eq, nat_le, nat_lt, List, [], ◌∷◌, length, take, drop, codes, refl, ap, subst, arith, ◌∙◌, sym, ◌⊎◌, inl, inr}
 use Rattle.std.specs.List.{list_all, prefix_len}
 use Rattle.std.specs.Str.{bytes_eq}
-use Rattle.std.proofs.lemmas.List.{length-take-le, take-append-drop}
+use Rattle.std.proofs.lemmas.List.{length-take-le, take-append-drop, take_rest}
 use Rattle.std.proofs.lemmas.List.Sums.{prefix_len-le-length}
 use Rattle.std.proofs.lemmas.List.Folds.{length-prefix_len}
 use Rattle.std.proofs.Math.Bool.{or-false, and-false}
 use Rattle.std.proofs.lemmas.Bool.Decides.{nat_tests, leb_tells}
 use Rattle.std.proofs.lemmas.Slice.Eq.{bytes_eq-Decides}
-use Rattle.fpc_base.specs.Tokens.{is_small, is_capital, is_digit, is_word_byte, is_blank, is_in_line, is_name_from, is_one_of, symbols, unit_words, units, keywords, begins_with_sign, limited, word_of, short_symbol_of, symbol_of, is_word, is_variable, is_number, is_token, has_form, is_too_long, NoLonger, IsLongest, LongestIsTaken}
+use Rattle.fpc_base.specs.Tokens.{is_small, is_capital, is_digit, is_word_byte, is_blank, is_in_line, is_name_from, is_one_of, symbols, unit_words, units, keywords, begins_with_sign, limited, word_of, short_symbol_of, symbol_of, is_word, is_variable, is_number, is_token, has_form, is_too_long, NoLonger, IsLongest, LongestIsTaken, HasForm, front_of}
+use Rattle.fpc_base.proofs.TokenLemmas.{IsFront}
 use Rattle.fpc_base.specs.declared.refusal.Code.TheVariants.{BadByte, LongName}
 use Rattle.fpc_base.specs.declared.tokens.TokenKind.{TokenKind}
 use Rattle.fpc_base.specs.declared.tokens.TokenKind.TheVariants.{Name, Variable, Number, Word, Symbol}
@@ -470,3 +471,16 @@ IsLongest-front_of b rest =
     front-if (nat_eq b 48) (Piece Number 1) _ (b ∷ rest) (zero-longest b rest) (λ zero'.
     front-if (is_digit b) (limited 9 Number (1 + prefix_len is_digit rest)) (symbol_of b rest) (b ∷ rest) (λ digit. digits-longest b rest digit zero') (λ digit.
     symbol-longest b rest (λ xs. token-other b xs small capital digit)))))))
+
+longest-piece : (kind : TokenKind) (n : ℕ) (bytes : List ℕ) (f : Front) → f ≡ Piece kind n → IsLongest f bytes → HasForm kind (take n bytes)
+longest-piece kind n bytes f e h = let g : IsLongest (Piece kind n) bytes = subst (λ x. IsLongest x bytes) e h in (g.0, g.1)
+
+front-form : (kind : TokenKind) (n : ℕ) (bytes : List ℕ) → IsFront (Piece kind n) bytes → HasForm kind (take n bytes)
+front-form kind n [] h = let s = h.some in let w = h.within in absurd (omega arith)
+front-form kind n (b ∷ rest) h = longest-piece kind n (b ∷ rest) (front_of b rest) (sym (h.front b rest refl)) (IsLongest-front_of b rest)
+
+-- the token at the front of what a slice tells has its form
+pub piece-form : (at n : ℕ) (kind : TokenKind) (bytes : List ℕ) → IsFront (Piece kind n) (take (length bytes - at) (drop at bytes)) → HasForm kind (take (at + n - at) (drop at bytes))
+piece-form at n kind bytes h =
+    let e : at + n - at ≡ n = omega arith in
+    rw e (front-form kind n (drop at bytes) (rw (take_rest bytes at) at h))

@@ -195,6 +195,10 @@ has_form Symbol x = is_one_of symbols x
 abbrev pub is_too_long : List ℕ → Bool
 is_too_long x = ((is_word x || is_variable x) && nat_lt 255 (length x)) || (is_number x && nat_lt 9 (length x))
 
+-- a token of its kind, within the limits
+abbrev pub HasForm : TokenKind → List ℕ → Type 0
+HasForm kind x = (has_form kind x ≡ true) × (is_too_long x ≡ false)
+
 -- no more than the first n bytes are a token
 abbrev pub NoLonger : ℕ → List ℕ → Type 0
 NoLonger n bytes = (m : ℕ) → n < m → m ≤ length bytes → is_token (take m bytes) ≡ false

@@ -1,6 +1,6 @@
 //! The tokens of a source.
 ghost use Rattle.std.specs.Prelude.{◌≡◌, ◌<◌, ◌≤◌, length, IfOk, IfSome, IfErr};
-ghost use Rattle.fpc_base.specs.Tokens.{tokens_of, source_of, place_of, tokens_left, end_of, IsFirst, IsNext, IsSpan, LongestIsTaken};
+ghost use Rattle.fpc_base.specs.Tokens.{tokens_of, source_of, place_of, tokens_left, end_of, IsFirst, IsNext, IsSpan, HasForm, LongestIsTaken};
 
 mod bytes;
 mod front;
@@ -47,6 +47,7 @@ pub fn longest_is_taken()
 fn token_from<'a>(bytes: &'a [u8], start: usize) -> Result<Option<Token<'a>>, Refusal>
     ensures first { IsFirst result bytes.now start }
     ensures span { IfOk result (λ o. IfSome o (λ t. IsSpan bytes.now start (end_of t) t)) }
+    ensures form { IfOk result (λ o. IfSome o (λ t. HasForm t.kind t.text.now)) }
     ensures fault { IfErr result (λ r. (start ≤ r.at) × (r.at < length bytes.now)) }
 {
     let mut at = start;
@@ -85,6 +86,7 @@ impl<'a> Tokens<'a> {
         ensures next { IsNext result (tokens_left self.old) (tokens_left self.new) }
         ensures source { source_of self.new ≡ source_of self.old }
         ensures span { IfOk result (λ o. IfSome o (IsSpan (source_of self.old) (place_of self.old) (place_of self.new))) }
+        ensures form { IfOk result (λ o. IfSome o (λ t. HasForm t.kind t.text.now)) }
         ensures fault { IfErr result (λ r. (place_of self.old ≤ r.at) × (r.at < length (source_of self.old))) }
     {
         let found = token_from(self.bytes, self.at);

@@ -1,6 +1,7 @@
 use Rattle.std.proofs.Common.{arith, ◌∙◌, sym}
 use Rattle.fpc_base.specs.declared.tokens.front.Front.TheVariants.{Gap, Fault}
 use Rattle.fpc_base.proofs.TokenLemmas.{tokens_from-slice, tokens_from-piece}
+use Rattle.fpc_base.proofs.LongestToken.{piece-form}
 use Rattle.fpc_base.proofs.tokens.token_from.Goals as goal
 
 pub loop-at-preserved : goal.loop-at-preserved
@@ -20,3 +21,8 @@ returns-in-Piece-clause-first c =
     let h = c.in-Piece.ensures in
     sym c.loop-at.invariant.same
     ∙ tokens_from-piece c.loop-at.at c.in-Piece.size c.in-Piece.kind c.args.bytes.now (record { front = h.front; some = h.some; within = h.within })
+
+pub returns-in-Piece-clause-form : goal.returns-in-Piece-clause-form
+returns-in-Piece-clause-form c =
+    let h = c.in-Piece.ensures in
+    piece-form c.loop-at.at c.in-Piece.size c.in-Piece.kind c.args.bytes.now (record { front = h.front; some = h.some; within = h.within })
