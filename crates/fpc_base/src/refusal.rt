@@ -126,3 +126,32 @@ pub enum ReadRefusal {
     TooLarge,
     OutOfMemory,
 }
+
+/// Why a token was not taken; its place is known where it was read.
+#[derive(Clone, Copy, PartialEq, Eq, Debug)]
+pub enum TokenRefusal {
+    Refused(Code),
+    OutOfMemory,
+}
+
+impl From<OutOfMemory> for TokenRefusal {
+    ghost use Rattle.std.specs.Prelude.{◌≡◌};
+    ghost use Rattle.fpc_base.specs.declared.refusal.TokenRefusal.TheVariants.{OutOfMemory};
+
+    ghost from_gives = { λ _ e. e ≡ OutOfMemory };
+
+    fn from(_e: OutOfMemory) -> TokenRefusal {
+        TokenRefusal::OutOfMemory
+    }
+}
+
+impl From<AllocError> for TokenRefusal {
+    ghost use Rattle.std.specs.Prelude.{◌≡◌};
+    ghost use Rattle.fpc_base.specs.declared.refusal.TokenRefusal.TheVariants.{OutOfMemory};
+
+    ghost from_gives = { λ _ e. e ≡ OutOfMemory };
+
+    fn from(_e: AllocError) -> TokenRefusal {
+        TokenRefusal::OutOfMemory
+    }
+}

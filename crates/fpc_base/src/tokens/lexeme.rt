@@ -1,6 +1,6 @@
 //! What a token says, apart from its place.
-ghost use Rattle.std.specs.Prelude.{◌≡◌};
-ghost use Rattle.fpc_base.specs.Lexeme.{lexeme_as, lexeme_of, sign_of_symbol, sign_of_word};
+ghost use Rattle.std.specs.Prelude.{◌≡◌, IsTrue, ◌↔◌};
+ghost use Rattle.fpc_base.specs.Lexeme.{lexeme_as, lexeme_of, a_sign, sign_of_symbol, sign_of_word};
 
 use super::{Token, TokenKind};
 
@@ -81,6 +81,18 @@ impl<'a> Token<'a> {
             TokenKind::Number => Lexeme::Number(self.text),
             TokenKind::Symbol => said(symbol(self.text)),
             TokenKind::Word => said(word(self.text)),
+        }
+    }
+}
+
+impl<'a> Lexeme<'a> {
+    /// Whether it is this sign.
+    pub fn is(self, sign: Sign) -> bool
+        ensures { IsTrue result ↔ (lexeme_as self.entry ≡ a_sign sign) }
+    {
+        match self {
+            Lexeme::Sign(own) => own == sign,
+            _ => false,
         }
     }
 }

@@ -1,0 +1,4 @@
+//! Terms read from tokens.
+#![tactic(auto)]
+
+pub mod reader;
