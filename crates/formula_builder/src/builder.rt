@@ -1,7 +1,7 @@
 //! Formulas that are built from the left, with no recursion.
 ghost use Rattle.std.specs.Prelude.{◌≡◌, ℕ, ◌<◌, ◌+◌, ◌^◌, ◌++◌, ◌∷◌, [], List, Bool, true, false, ◌&&◌, length, take, drop, IsTrue, IfOk, OnOk, OnErr, ◌↔◌, Some, None, slice_set};
 ghost use Rattle.fpc_terms.specs.Term.{count, all_before};
-ghost use Rattle.term_builder.specs.Partial.{args_of_frame};
+ghost use Rattle.fpc_terms.specs.Partial.{args_of_frame};
 ghost use Rattle.polarised_formulas.specs.declared.node.Node.TheVariants.{Atom, Implies};
 ghost use Rattle.polarised_formulas.specs.Formula.{truth, falsity, atom, inside_before, nodes_of};
 ghost use Rattle.formula_builder.specs.Unfinished.{nothing, joiner_node, binder_node, holes_in, quantifiers_in, is_wanting, placed, opened, quantified, left, takes_joiner, joined, takes_close, closed, whole, begins_under, under_left, unders_left, count_unders, first_slot, first_turned, begins_second, second_left};

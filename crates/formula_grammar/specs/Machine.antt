@@ -6,9 +6,9 @@ use Rattle.fpc_base.specs.declared.refusal.Code.TheVariants.{NotBuilt, Unexpecte
 use Rattle.fpc_base.specs.declared.tokens.lexeme.Sign.{Sign}
 use Rattle.fpc_base.specs.declared.tokens.lexeme.Sign.TheVariants as sign
 use Rattle.fpc_base.specs.Lexeme.{Lexeme, a_name, a_variable, a_sign}
-use Rattle.term_grammar.specs.Written.{no_words}
-use Rattle.term_grammar.specs.Spot.{in_arguments}
-use Rattle.term_grammar.specs.Machine as term
+use Rattle.fpc_terms.specs.Written.{no_words}
+use Rattle.fpc_terms.specs.Spot.{in_arguments}
+use Rattle.fpc_terms.specs.Machine as term
 use Rattle.polarised_formulas.specs.declared.logic.Logic.{Logic}
 use Rattle.polarised_formulas.specs.declared.logic.Logic.TheVariants.{Lkf, Ljf}
 use Rattle.polarised_formulas.specs.declared.logic.Polarity.TheVariants.{Positive, Negative}

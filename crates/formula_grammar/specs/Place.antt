@@ -4,7 +4,7 @@ use Rattle.fpc_base.specs.declared.refusal.Code.{Code}
 use Rattle.fpc_base.specs.declared.refusal.Code.TheVariants.{NotBuilt, TooDeep, ManyArguments}
 use Rattle.fpc_base.specs.declared.tokens.lexeme.Sign.TheVariants as sign
 use Rattle.fpc_base.specs.Lexeme.{Lexeme, a_name, a_variable, a_sign}
-use Rattle.term_grammar.specs.Spot.{Spot, alone, in_arguments, in_term, tokens_to, done_at, IsSpotKnown}
+use Rattle.fpc_terms.specs.Spot.{Spot, alone, in_arguments, in_term, tokens_to, done_at, IsSpotKnown}
 use Rattle.polarised_formulas.specs.declared.logic.Logic.{Logic}
 use Rattle.polarised_formulas.specs.declared.logic.Logic.TheVariants.{Ljf}
 use Rattle.formula_grammar.specs.declared.connective.Joiner.{Joiner}

@@ -2,3 +2,8 @@ pub mod Name
 pub mod Term
 pub mod Scope
 pub mod Text
+pub mod Written
+pub mod Spot
+pub mod Machine
+pub mod Partial
+pub mod Holding

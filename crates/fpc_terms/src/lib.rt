@@ -1,10 +1,12 @@
 //! Names and terms. A term is a flat list of cells in prefix order, which contracts see as a tree.
 #![tactic(auto)]
 
+pub mod builder;
 pub mod cell;
 pub mod list;
 pub mod name;
 pub mod names;
+pub mod reader;
 pub mod scope;
 pub mod term;
 

@@ -1,2 +1,0 @@
-//! The grammar of terms.
-#![tactic(auto)]

@@ -1,4 +1,0 @@
-//! Terms read from tokens.
-#![tactic(auto)]
-
-pub mod reader;
