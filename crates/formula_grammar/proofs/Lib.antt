@@ -1,2 +1,4 @@
 pub mod States
 pub mod Sound
+pub mod Complete
+pub mod Viable
