@@ -2,3 +2,5 @@ pub mod States
 pub mod Sound
 pub mod Complete
 pub mod Viable
+pub mod FormulaLaws
+pub mod Limits

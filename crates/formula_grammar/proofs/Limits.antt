@@ -1,0 +1,70 @@
+-- A token behind others is refused or taken as the machine says.
+use Rattle.std.proofs.Common.{◌≡◌, ◌↔◌, ℕ, Bool, true, false, List, [], ◌∷◌, ◌++◌, refl, ap, sym, subst, ◌∙◌, length, nat_eq, Option, Some, None, Result, Ok, Err}
+use Rattle.std.proofs.lemmas.Bool.Decides.{Decides-eqb}
+use Rattle.std.proofs.lemmas.Bool.{false≢true}
+use Rattle.fpc_base.specs.declared.refusal.Code.{Code}
+use Rattle.fpc_base.specs.declared.refusal.Code.TheVariants.{Unexpected, TooDeep, ManyArguments}
+use Rattle.fpc_base.specs.Lexeme.{Lexeme, a_name, a_variable, a_sign}
+use Rattle.fpc_base.specs.Reading.{Begins, IsTaken, IsRefused, unexpected, limited as limit}
+use Rattle.term_grammar.specs.Spot.{Spot, done_at}
+use Rattle.term_grammar.specs.Machine as term
+use Rattle.polarised_formulas.specs.declared.logic.Logic.{Logic}
+use Rattle.formula_grammar.specs.Written.{IsFormula}
+use Rattle.formula_grammar.specs.Place.{Place, nesting, FormulaLimits, too_deep, many_arguments, LeadsTo, LeadsInto}
+use Rattle.formula_grammar.specs.Machine.{FormulaState, wants, marked, binding, bound_to, named, in_atom, has, stuck, step, is_deep, is_full, within, limited}
+use Rattle.formula_grammar.proofs.States.{IsLive}
+use Rattle.formula_grammar.proofs.FormulaLaws.{state_behind, BeginsFormula, state_behind-step, step-begins, begins-step, state-leads_to, leads_to-state, state-leads_into, leads_into-state}
+
+module _ (logic : Logic) (parameters : List (List ℕ)) where
+  deep-leads : (tokens : List Lexeme) (s : FormulaState) → state_behind logic parameters tokens ≡ s → is_deep s ≡ true → LeadsTo logic parameters 10001 tokens
+  deep-leads tokens (wants p) r e = state-leads_to logic parameters 10001 tokens p r ((Decides-eqb (nesting p) 10001).0 e)
+  deep-leads tokens _ r e = cc
+
+  leads-deep : (tokens : List Lexeme) → LeadsTo logic parameters 10001 tokens → is_deep (state_behind logic parameters tokens) ≡ true
+  leads-deep tokens l = ap is_deep (leads_to-state logic parameters 10001 tokens l) ∙ (Decides-eqb (nesting l.place) 10001).1 l.deep
+
+  full-term : (tokens : List Lexeme) (positive : Bool) (x : List ℕ) (t : term.TermState) (p : Place)
+      → state_behind logic parameters tokens ≡ in_atom positive x t p → term.is_full t ≡ true → LeadsInto logic parameters 255 tokens
+  full-term tokens positive x (term.wants s) p r e = state-leads_into logic parameters 255 tokens positive x s p r ((Decides-eqb (length (done_at s)) 255).0 e)
+  full-term tokens positive x _ p r e = cc
+
+  full-leads : (tokens : List Lexeme) (s : FormulaState) → state_behind logic parameters tokens ≡ s → is_full s ≡ true → LeadsInto logic parameters 255 tokens
+  full-leads tokens (in_atom positive x t p) r e = full-term tokens positive x t p r e
+  full-leads tokens _ r e = cc
+
+  leads-full : (tokens : List Lexeme) → LeadsInto logic parameters 255 tokens → is_full (state_behind logic parameters tokens) ≡ true
+  leads-full tokens l = ap is_full (leads_into-state logic parameters 255 tokens l) ∙ (Decides-eqb (length (done_at l.spot)) 255).1 l.behind
+
+  -- what the answer about a token says, where its step leads to a state
+  abbrev pub IsJudged : List Lexeme → Lexeme → FormulaState → Result FormulaState Code → Type 0
+  IsJudged before c t (Ok u) = IsTaken (IsFormula logic parameters) (FormulaLimits logic parameters) before c × (t ≡ u)
+  IsJudged before c t (Err code) = IsRefused (IsFormula logic parameters) (FormulaLimits logic parameters) before c code
+
+  free : (before : List Lexeme) (c : Lexeme) → is_deep (state_behind logic parameters before) ≡ false
+      → is_full (state_behind logic parameters (before ++ c ∷ [])) ≡ false → (code : Code) → FormulaLimits logic parameters before c code → ⊥
+  free before c d f _ (too_deep l) = false≢true (sym d ∙ leads-deep before l)
+  free before c d f _ (many_arguments n l) = false≢true (sym f ∙ leads-full (before ++ c ∷ []) l)
+
+  judged : (before : List Lexeme) (c : Lexeme) (deep full : Bool) (t : FormulaState) → is_deep (state_behind logic parameters before) ≡ deep → is_full t ≡ full
+      → step logic parameters (state_behind logic parameters before) c ≡ t → IsJudged before c t (within deep full t)
+  judged before c deep full stuck d f e = unexpected (λ b. subst IsLive e (begins-step logic parameters before c b))
+  judged before c true full t d f e =
+      limit (step-begins logic parameters before c (rw e tt)) (too_deep (deep-leads before (state_behind logic parameters before) refl d))
+  judged before c false true t d f e =
+      limit (step-begins logic parameters before c (rw e tt))
+      (many_arguments (λ l. false≢true (sym d ∙ leads-deep before l))
+      (full-leads (before ++ c ∷ []) t (state_behind-step logic parameters before c ∙ e) f))
+  judged before c false false t d f e = (
+    record {
+      begins = step-begins logic parameters before c (rw e tt);
+      free = free before c d (ap is_full (state_behind-step logic parameters before c ∙ e) ∙ f);
+    },
+    refl
+  )
+
+  -- the limits judge each token
+  pub limited-judged : (before : List Lexeme) (c : Lexeme)
+      → IsJudged before c (step logic parameters (state_behind logic parameters before) c) (limited logic parameters (state_behind logic parameters before) c)
+  limited-judged before c =
+      judged before c (is_deep (state_behind logic parameters before)) (is_full (step logic parameters (state_behind logic parameters before) c))
+      (step logic parameters (state_behind logic parameters before) c) refl refl refl
