@@ -4,3 +4,4 @@ pub mod Complete
 pub mod Viable
 pub mod FormulaLaws
 pub mod Limits
+pub mod ReadingLaws
