@@ -105,6 +105,10 @@ module _ (logic : Logic) (parameters : List (List ℕ)) where
   pub whole-told : (tokens : List Lexeme) (w : WrittenFormula) → whole_of (state_behind tokens) ≡ Some w ↔ IsFormula logic parameters tokens w
   whole-told tokens w = (whole-formula tokens w, formula-whole tokens w)
 
+  -- the tokens are those of one formula
+  pub formula-once : (tokens : List Lexeme) (v w : WrittenFormula) → IsFormula logic parameters tokens v → IsFormula logic parameters tokens w → v ≡ w
+  formula-once tokens v w f g = let e : Some v ≡ Some w = sym (formula-whole tokens v f) ∙ formula-whole tokens w g in cc
+
   -- a formula begins with the tokens exactly where the machine isn't stuck
   pub live-begins : (tokens : List Lexeme) → IsLive (state_behind tokens) → BeginsFormula tokens
   live-begins tokens live =

@@ -5,3 +5,4 @@ pub mod Viable
 pub mod FormulaLaws
 pub mod Limits
 pub mod ReadingLaws
+pub mod FormulaReading

@@ -13,7 +13,8 @@ use Rattle.formula_grammar.specs.Written.{IsFormula}
 use Rattle.formula_grammar.specs.Place.{Place, nesting, FormulaLimits, too_deep, many_arguments, LeadsTo, LeadsInto}
 use Rattle.formula_grammar.specs.Machine.{FormulaState, wants, marked, binding, bound_to, named, in_atom, has, stuck, step, is_deep, is_full, within, limited}
 use Rattle.formula_grammar.proofs.States.{IsLive}
-use Rattle.formula_grammar.proofs.FormulaLaws.{state_behind, BeginsFormula, state_behind-step, step-begins, begins-step, state-leads_to, leads_to-state, state-leads_into, leads_into-state}
+use Rattle.formula_grammar.proofs.ReadingLaws.{taken-refused, refused-once}
+use Rattle.formula_grammar.proofs.FormulaLaws.{formula-once, state_behind, BeginsFormula, state_behind-step, step-begins, begins-step, state-leads_to, leads_to-state, state-leads_into, leads_into-state}
 
 module _ (logic : Logic) (parameters : List (List ℕ)) where
   deep-leads : (tokens : List Lexeme) (s : FormulaState) → state_behind logic parameters tokens ≡ s → is_deep s ≡ true → LeadsTo logic parameters 10001 tokens
@@ -68,3 +69,53 @@ module _ (logic : Logic) (parameters : List (List ℕ)) where
   limited-judged before c =
       judged before c (is_deep (state_behind logic parameters before)) (is_full (step logic parameters (state_behind logic parameters before) c))
       (step logic parameters (state_behind logic parameters before) c) refl refl refl
+
+-- one limit forbids a token
+pub limits-once : (logic : Logic) (parameters : List (List ℕ)) (before : List Lexeme) (c : Lexeme) (a b : Code) → FormulaLimits logic parameters before c a
+    → FormulaLimits logic parameters before c b → a ≡ b
+limits-once logic parameters before c _ _ (too_deep l) (too_deep m) = refl
+limits-once logic parameters before c _ _ (too_deep l) (many_arguments n m) = absurd (n l)
+limits-once logic parameters before c _ _ (many_arguments n l) (too_deep m) = absurd (n m)
+limits-once logic parameters before c _ _ (many_arguments n l) (many_arguments o m) = refl
+
+module _ (logic : Logic) (parameters : List (List ℕ)) where
+  -- the answer about a token behind others
+  abbrev pub answer : List Lexeme → Lexeme → Result FormulaState Code
+  answer before c = limited logic parameters (state_behind logic parameters before) c
+
+  answer-refused : (before : List Lexeme) (c : Lexeme) (t : FormulaState) (r : Result FormulaState Code) (code : Code)
+      → IsJudged logic parameters before c t r → IsRefused (IsFormula logic parameters) (FormulaLimits logic parameters) before c code → r ≡ Err code
+  answer-refused before c t (Ok u) code j h = absurd (taken-refused (IsFormula logic parameters) (FormulaLimits logic parameters) j.0 h)
+  answer-refused before c t (Err d) code j h =
+      ap Err (refused-once (IsFormula logic parameters) (FormulaLimits logic parameters) (formula-once logic parameters) (limits-once logic parameters) j h)
+
+  answer-taken : (before : List Lexeme) (c : Lexeme) (t : FormulaState) (r : Result FormulaState Code) → IsJudged logic parameters before c t r
+      → IsTaken (IsFormula logic parameters) (FormulaLimits logic parameters) before c → r ≡ Ok t
+  answer-taken before c t (Ok u) j h = ap Ok (sym j.1)
+  answer-taken before c t (Err d) j h = absurd (taken-refused (IsFormula logic parameters) (FormulaLimits logic parameters) h j)
+
+  -- a token is refused with a code exactly where the answer is this code
+  pub refused-told : (before : List Lexeme) (c : Lexeme) (code : Code)
+      → answer before c ≡ Err code ↔ IsRefused (IsFormula logic parameters) (FormulaLimits logic parameters) before c code
+  refused-told before c code = (
+    λ e. subst (IsJudged logic parameters before c (step logic parameters (state_behind logic parameters before) c)) e (limited-judged logic parameters before c),
+    answer-refused before c (step logic parameters (state_behind logic parameters before) c) (answer before c) code (limited-judged logic parameters before c)
+  )
+
+  -- a token is taken exactly where the answer is the next state
+  pub taken-told : (before : List Lexeme) (c : Lexeme) (t : FormulaState)
+      → answer before c ≡ Ok t
+      ↔ (IsTaken (IsFormula logic parameters) (FormulaLimits logic parameters) before c × (step logic parameters (state_behind logic parameters before) c ≡ t))
+  taken-told before c t = (
+    λ e. subst (IsJudged logic parameters before c (step logic parameters (state_behind logic parameters before) c)) e (limited-judged logic parameters before c),
+    λ h. answer-taken before c (step logic parameters (state_behind logic parameters before) c) (answer before c) (limited-judged logic parameters before c) h.0 ∙ ap Ok h.1
+  )
+
+  -- the answer is `Unexpected` exactly where no formula begins so
+  pub unexpected-told : (before : List Lexeme) (c : Lexeme) → answer before c ≡ Err Unexpected ↔ (BeginsFormula logic parameters (before ++ c ∷ []) → ⊥)
+  unexpected-told before c = (λ e. refused-unexpected before c Unexpected refl ((refused-told before c Unexpected).0 e), λ n. (refused-told before c Unexpected).1 (unexpected n)) where
+    refused-unexpected : (before : List Lexeme) (c : Lexeme) (code : Code) → code ≡ Unexpected
+        → IsRefused (IsFormula logic parameters) (FormulaLimits logic parameters) before c code → BeginsFormula logic parameters (before ++ c ∷ []) → ⊥
+    refused-unexpected before c _ e (unexpected n) b = n b
+    refused-unexpected before c _ e (limit d (too_deep l)) b = cc
+    refused-unexpected before c _ e (limit d (many_arguments n l)) b = cc

@@ -1,5 +1,5 @@
 -- A machine that reads the tokens of a formula or a problem, one after another, and keeps all that it read.
-use Rattle.std.specs.Prelude.{◌≡◌, ℕ, Bool, true, false, if◌then◌else◌, List, [], ◌∷◌, Option, Some, None, Result, Ok, Err, nat_eq, codes}
+use Rattle.std.specs.Prelude.{◌≡◌, ℕ, Bool, true, false, if◌then◌else◌, List, [], ◌∷◌, Option, Some, None, is_some, Result, Ok, Err, nat_eq, codes}
 use Rattle.std.specs.Str.{bytes_eq}
 use Rattle.fpc_base.specs.declared.refusal.Code.{Code}
 use Rattle.fpc_base.specs.declared.refusal.Code.TheVariants.{NotBuilt, Unexpected, TooDeep, ManyArguments}
@@ -101,6 +101,11 @@ abbrev pub whole_of : FormulaState → Option WrittenFormula
 whole_of (has w p) = ended_at w p
 whole_of (named positive x p) = ended_at (literal positive x no_words) p
 whole_of _ = None
+
+-- the formula is whole, and no token goes on behind it
+abbrev pub is_ended : FormulaState → Bool
+is_ended (has w p) = is_some (ended_at w p)
+is_ended _ = false
 
 -- a formula that is nested 10,001 deep is to come
 abbrev pub is_deep : FormulaState → Bool
