@@ -6,3 +6,4 @@ pub mod FormulaLaws
 pub mod Limits
 pub mod ReadingLaws
 pub mod FormulaReading
+pub mod ProblemLaws

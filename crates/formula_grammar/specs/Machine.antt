@@ -161,3 +161,24 @@ problem_step _ _ = lost
 abbrev pub problem_run : ProblemState → List Lexeme → ProblemState
 problem_run s [] = s
 problem_run s (c ∷ cs) = problem_run (problem_step s c) cs
+
+-- the word of the logic, within the limits
+abbrev pub begun_within : Option Logic → Result ProblemState Code
+begun_within (Some Lkf) = Ok (reading Lkf (wants whole))
+begun_within (Some Ljf) = Err NotBuilt
+begun_within None = Err Unexpected
+
+abbrev pub dotted_within : Logic → Option WrittenFormula → Result ProblemState Code
+dotted_within logic (Some w) = Ok (finished logic w)
+dotted_within logic None = Err Unexpected
+
+abbrev pub read_within : Logic → Result FormulaState Code → Result ProblemState Code
+read_within logic (Ok s) = Ok (reading logic s)
+read_within logic (Err code) = Err code
+
+-- one token of a problem, with the limits
+abbrev pub limited_problem : ProblemState → Lexeme → Result ProblemState Code
+limited_problem start (a_name x) = begun_within (logic_of x)
+limited_problem (reading logic s) (a_sign sign.Dot) = dotted_within logic (whole_of s)
+limited_problem (reading logic s) c = read_within logic (limited logic [] s c)
+limited_problem _ _ = Err Unexpected
