@@ -7,3 +7,4 @@ pub mod Limits
 pub mod ReadingLaws
 pub mod FormulaReading
 pub mod ProblemLaws
+pub mod ProblemLimits

@@ -113,7 +113,7 @@ problem-live_run cs lost live = rw (run-lost cs) at live
 problem-live_run cs _ live = tt
 
 -- one token of the formula of a problem
-read_on-live : (logic : Logic) (s : FormulaState) → IsLive s → read_on logic s ≡ reading logic s
+pub read_on-live : (logic : Logic) (s : FormulaState) → IsLive s → read_on logic s ≡ reading logic s
 read_on-live logic stuck live = absurd live
 read_on-live logic _ live = refl
 
