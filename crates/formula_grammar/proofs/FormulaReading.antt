@@ -10,9 +10,9 @@ use Rattle.polarised_formulas.specs.declared.logic.Logic.{Logic}
 use Rattle.formula_grammar.specs.Written.{WrittenFormula, IsFormula}
 use Rattle.formula_grammar.specs.Place.{Place, whole, FormulaLimits}
 use Rattle.formula_grammar.specs.Machine.{FormulaState, wants, has, ended_at, whole_of, is_ended, limited, step}
-use Rattle.formula_grammar.proofs.ReadingLaws.{LeadsFront, LeadsFront-start, LeadsFront-taken, RefusesFront-refused}
-use Rattle.formula_grammar.proofs.FormulaLaws.{state_behind, state_behind-step, IsHad, whole-formula, formula-whole, final-told, has-final}
-use Rattle.formula_grammar.proofs.Limits.{IsJudged, limited-judged, refused-told, taken-told, unexpected-told}
+use Rattle.formula_grammar.proofs.ReadingLaws.{LeadsFront, LeadsFront-start, LeadsFront-taken, RefusesFront-refused, front-once, front-refused_once, front-not_both}
+use Rattle.formula_grammar.proofs.FormulaLaws.{formula-once, state_behind, state_behind-step, IsHad, whole-formula, formula-whole, final-told, has-final}
+use Rattle.formula_grammar.proofs.Limits.{limits-once, refused-told, taken-told, unexpected-told}
 
 unended : (s : FormulaState) (w : WrittenFormula) → is_ended s ≡ false → whole_of s ≡ Some w → IsHad s → ⊥
 unended (has u p) w e h k = let i : is_some (ended_at u p) ≡ true = ap is_some h in cc
@@ -98,3 +98,15 @@ module _ (logic : Logic) (parameters : List (List ℕ)) where
       let f = is-whole a.before s w a.ran h in
       a.leads.read w rest
       (reading.ReadsFront.final f ((final-told logic parameters a.before w f).1 (subst IsHad (sym a.ran) (ended-had s e))))
+
+  -- the front of some items is read as one formula, or refused for one reason at one place, and not both
+  pub formula-read_once : (items left more : List Item) (v w : WrittenFormula) → ReadsFormula items v left → ReadsFormula items w more → (v ≡ w) × (left ≡ more)
+  formula-read_once items left more v w h k =
+      front-once (IsFormula logic parameters) (FormulaLimits logic parameters) (formula-once logic parameters) (limits-once logic parameters) h k
+
+  pub formula-refused_once : (n : ℕ) (items : List Item) (r s : Refusal) → RefusesFormula n items r → RefusesFormula n items s → r ≡ s
+  formula-refused_once n items r s h k =
+      front-refused_once (IsFormula logic parameters) (FormulaLimits logic parameters) (formula-once logic parameters) (limits-once logic parameters) h k
+
+  pub formula-not_both : (n : ℕ) (items left : List Item) (w : WrittenFormula) (r : Refusal) → ReadsFormula items w left → RefusesFormula n items r → ⊥
+  formula-not_both n items left w r h k = front-not_both (IsFormula logic parameters) (FormulaLimits logic parameters) h k

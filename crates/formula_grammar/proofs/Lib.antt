@@ -8,3 +8,4 @@ pub mod ReadingLaws
 pub mod FormulaReading
 pub mod ProblemLaws
 pub mod ProblemLimits
+pub mod ProblemReading

@@ -162,6 +162,11 @@ abbrev pub problem_run : ProblemState → List Lexeme → ProblemState
 problem_run s [] = s
 problem_run s (c ∷ cs) = problem_run (problem_step s c) cs
 
+-- the problem, where the tokens so far are one
+abbrev pub problem_of : ProblemState → Option WrittenProblem
+problem_of (finished logic w) = let problem : WrittenProblem = record { logic = logic; formula = w } in Some problem
+problem_of _ = None
+
 -- the word of the logic, within the limits
 abbrev pub begun_within : Option Logic → Result ProblemState Code
 begun_within (Some Lkf) = Ok (reading Lkf (wants whole))
