@@ -6,6 +6,7 @@ use Rattle.term_grammar.specs.Written.{WrittenTerm, WrittenArgs, no_words, words
 use Rattle.term_grammar.specs.Spot.{Spot, alone, in_arguments, in_term, tokens_to, IsSpotKnown}
 use Rattle.term_grammar.specs.Machine as term
 use Rattle.term_grammar.proofs.States as of_term
+use Rattle.term_grammar.proofs.TermLaws.{IsBehind}
 use Rattle.term_grammar.proofs.TermLaws as term_laws
 use Rattle.polarised_formulas.specs.declared.logic.Logic.{Logic}
 use Rattle.polarised_formulas.specs.declared.logic.Logic.TheVariants.{Lkf, Ljf}
@@ -19,12 +20,6 @@ use Rattle.formula_grammar.specs.Written.{WrittenFormula, true_unit, false_unit,
 use Rattle.formula_grammar.specs.Place.{Place, whole, in_first, in_second, under, scope_at, tokens_to_place, IsArgument}
 use Rattle.formula_grammar.specs.Machine.{FormulaState, wants, marked, binding, bound_to, named, in_atom, has, stuck, begun, joiner_of, joined, after, within_atom, step, run, ended_at, whole_of}
 use Rattle.formula_grammar.proofs.States.{IsPlaceOf}
-
--- a token follows, and it isn't an open parenthesis
-abbrev pub IsBehind : List Lexeme → Type 0
-IsBehind [] = ⊥
-IsBehind (a_sign sign.OpenParenthesis ∷ rest) = ⊥
-IsBehind (c ∷ rest) = Unit {0}
 
 pub joiner_of-joiner_sign : (logic : Logic) (j : Joiner) → IsJoinerOf logic j → joiner_of logic (joiner_sign logic j) ≡ Some j
 joiner_of-joiner_sign logic (And Positive) h = refl

@@ -1,5 +1,6 @@
 -- What the machine of formulas tells of the tokens so far.
-use Rattle.std.proofs.Common.{◌≡◌, ◌↔◌, ℕ, Bool, true, false, List, [], ◌∷◌, ◌++◌, refl, ap, sym, subst, ◌∙◌, append-nil, length, Option, Some, None}
+use Rattle.std.proofs.Common.{◌≡◌, ◌↔◌, ℕ, Bool, true, false, List, [], ◌∷◌, ◌++◌, refl, ap, sym, subst, ◌∙◌, append-nil, length, Option, Some, None, is_some}
+use Rattle.std.proofs.lemmas.Bool.{false≢true}
 use Rattle.fpc_base.specs.declared.tokens.lexeme.Sign.{Sign}
 use Rattle.fpc_base.specs.declared.tokens.lexeme.Sign.TheVariants as sign
 use Rattle.fpc_base.specs.Lexeme.{Lexeme, a_name, a_variable, a_sign}
@@ -11,7 +12,7 @@ use Rattle.term_grammar.proofs.States as of_term
 use Rattle.polarised_formulas.specs.declared.logic.Logic.{Logic}
 use Rattle.formula_grammar.specs.Written.{WrittenFormula, literal, pair, bind, formula_tokens, IsBound, IsWrittenIn, IsFormula}
 use Rattle.formula_grammar.specs.Place.{Place, whole, in_first, in_second, under, scope_at, nesting, tokens_to_place, FormulaLimits, LeadsTo, LeadsInto, IsArgument}
-use Rattle.formula_grammar.specs.Machine.{FormulaState, wants, marked, binding, bound_to, named, in_atom, has, stuck, after, step, run, ended_at, whole_of}
+use Rattle.formula_grammar.specs.Machine.{FormulaState, wants, marked, binding, bound_to, named, in_atom, has, stuck, after, step, run, ended_at, whole_of, is_ended}
 use Rattle.formula_grammar.proofs.States.{tokens_before, IsPlaceOf, IsStateOf, IsLive, Leads}
 use Rattle.formula_grammar.proofs.Sound.{run-append, run-leads, live-run}
 use Rattle.formula_grammar.proofs.Complete.{run-ends, run-tokens_to_place, run-tokens_to}
@@ -62,11 +63,6 @@ after-ends : (logic : Logic) (parameters : List (List ℕ)) (positive : Bool) (x
     → ended_at (literal positive x no_words) p ≡ Some v → (c ≡ a_sign sign.OpenParenthesis → ⊥) → step logic parameters (named positive x p) c ≡ stuck
 after-ends logic parameters positive x p v (a_sign sign.OpenParenthesis) e n = absurd (n refl)
 after-ends logic parameters positive x p v c e n = after-whole logic (literal positive x no_words) p v c e
-
--- more than a name was read
-abbrev pub IsHad : FormulaState → Type 0
-IsHad (has w p) = Unit {0}
-IsHad _ = ⊥
 
 module _ (logic : Logic) (parameters : List (List ℕ)) where
   -- the state behind the tokens of a formula from its first on
@@ -151,14 +147,14 @@ module _ (logic : Logic) (parameters : List (List ℕ)) where
       subst IsLive (after-ends logic parameters positive x p v c e n) live
 
   final-of_state : (tokens : List Lexeme) (s : FormulaState) (w : WrittenFormula) → state_behind tokens ≡ s → whole_of s ≡ Some w
-      → IsFinal (IsFormula logic parameters) (FormulaLimits logic parameters) tokens ↔ IsHad s
-  final-of_state tokens (has u p) w r e = (λ f. tt, λ h. has-final tokens u p w r e)
-  final-of_state tokens (named positive x p) w r e = (λ f. f (a_sign sign.OpenParenthesis) (named-opens tokens positive x p r), λ h. absurd h)
+      → IsFinal (IsFormula logic parameters) (FormulaLimits logic parameters) tokens ↔ is_ended s ≡ true
+  final-of_state tokens (has u p) w r e = (λ f. ap is_some e, λ h. has-final tokens u p w r e)
+  final-of_state tokens (named positive x p) w r e = (λ f. absurd (f (a_sign sign.OpenParenthesis) (named-opens tokens positive x p r)), λ h. absurd (false≢true h))
   final-of_state tokens _ w r e = cc
 
   -- whether a token goes on behind a formula is told by the state
   pub final-told : (tokens : List Lexeme) (w : WrittenFormula) → IsFormula logic parameters tokens w
-      → IsFinal (IsFormula logic parameters) (FormulaLimits logic parameters) tokens ↔ IsHad (state_behind tokens)
+      → IsFinal (IsFormula logic parameters) (FormulaLimits logic parameters) tokens ↔ is_ended (state_behind tokens) ≡ true
   final-told tokens w f = final-of_state tokens (state_behind tokens) w refl (formula-whole tokens w f)
 
   -- the tokens lead to a formula exactly where the machine wants one

@@ -1,5 +1,6 @@
 -- A loop that reads a formula at the front of some items, a token at a time.
 use Rattle.std.proofs.Common.{◌≡◌, ℕ, Bool, true, false, List, [], ◌∷◌, ◌++◌, refl, ap, sym, subst, ◌∙◌, Option, Some, None, is_some, Result, Ok, Err}
+use Rattle.std.proofs.lemmas.Bool.{false≢true}
 use Rattle.fpc_base.specs.declared.refusal.Code.{Code}
 use Rattle.fpc_base.specs.declared.refusal.Code.TheVariants.{Unexpected}
 use Rattle.fpc_base.specs.declared.refusal.Refusal.{Refusal}
@@ -11,16 +12,8 @@ use Rattle.formula_grammar.specs.Written.{WrittenFormula, IsFormula}
 use Rattle.formula_grammar.specs.Place.{Place, whole, FormulaLimits}
 use Rattle.formula_grammar.specs.Machine.{FormulaState, wants, has, ended_at, whole_of, is_ended, limited, step}
 use Rattle.formula_grammar.proofs.ReadingLaws.{LeadsFront, LeadsFront-start, LeadsFront-taken, RefusesFront-refused, front-once, front-refused_once, front-not_both}
-use Rattle.formula_grammar.proofs.FormulaLaws.{formula-once, state_behind, state_behind-step, IsHad, whole-formula, formula-whole, final-told, has-final}
+use Rattle.formula_grammar.proofs.FormulaLaws.{formula-once, state_behind, state_behind-step, whole-formula, formula-whole, final-told}
 use Rattle.formula_grammar.proofs.Limits.{limits-once, refused-told, taken-told, unexpected-told}
-
-unended : (s : FormulaState) (w : WrittenFormula) → is_ended s ≡ false → whole_of s ≡ Some w → IsHad s → ⊥
-unended (has u p) w e h k = let i : is_some (ended_at u p) ≡ true = ap is_some h in cc
-unended _ w e h k = k
-
-ended-had : (s : FormulaState) → is_ended s ≡ true → IsHad s
-ended-had (has u p) e = tt
-ended-had _ e = cc
 
 module _ (logic : Logic) (parameters : List (List ℕ)) where
   abbrev pub ReadsFormula : List Item → WrittenFormula → List Item → Type 0
@@ -72,8 +65,7 @@ module _ (logic : Logic) (parameters : List (List ℕ)) where
   IsAt-fault n items rest s r a e =
       a.leads.refused r
       (reading.RefusesFront.bad
-      (λ w f final. unended s w e (ap whole_of (sym a.ran) ∙ formula-whole logic parameters a.before w f)
-      (subst IsHad a.ran ((final-told logic parameters a.before w f).0 final))))
+      (λ w f final. false≢true (sym e ∙ ap is_ended (sym a.ran) ∙ (final-told logic parameters a.before w f).0 final)))
 
   -- at the end of the items
   pub IsAt-whole : (n : ℕ) (items : List Item) (s : FormulaState) (w : WrittenFormula) → IsAt n items [] s → whole_of s ≡ Some w → ReadsFormula items w []
@@ -97,7 +89,7 @@ module _ (logic : Logic) (parameters : List (List ℕ)) where
   IsAt-final n items rest s w a h e =
       let f = is-whole a.before s w a.ran h in
       a.leads.read w rest
-      (reading.ReadsFront.final f ((final-told logic parameters a.before w f).1 (subst IsHad (sym a.ran) (ended-had s e))))
+      (reading.ReadsFront.final f ((final-told logic parameters a.before w f).1 (ap is_ended a.ran ∙ e)))
 
   -- the front of some items is read as one formula, or refused for one reason at one place, and not both
   pub formula-read_once : (items left more : List Item) (v w : WrittenFormula) → ReadsFormula items v left → ReadsFormula items w more → (v ≡ w) × (left ≡ more)

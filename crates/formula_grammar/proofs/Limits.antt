@@ -1,5 +1,5 @@
 -- A token behind others is refused or taken as the machine says.
-use Rattle.std.proofs.Common.{◌≡◌, ◌↔◌, ℕ, Bool, true, false, List, [], ◌∷◌, ◌++◌, refl, ap, sym, subst, ◌∙◌, length, nat_eq, Option, Some, None, Result, Ok, Err}
+use Rattle.std.proofs.Common.{◌≡◌, ◌↔◌, ◌⊎◌, inl, inr, ℕ, Bool, true, false, List, [], ◌∷◌, ◌++◌, refl, ap, sym, subst, ◌∙◌, length, nat_eq, Option, Some, None, Result, Ok, Err}
 use Rattle.std.proofs.lemmas.Bool.Decides.{Decides-eqb}
 use Rattle.std.proofs.lemmas.Bool.{false≢true}
 use Rattle.fpc_base.specs.declared.refusal.Code.{Code}
@@ -111,11 +111,37 @@ module _ (logic : Logic) (parameters : List (List ℕ)) where
     λ h. answer-taken before c (step logic parameters (state_behind logic parameters before) c) (answer before c) (limited-judged logic parameters before c) h.0 ∙ ap Ok h.1
   )
 
+  limits-expected : (before : List Lexeme) (c : Lexeme) (code : Code) → FormulaLimits logic parameters before c code → code ≡ Unexpected → ⊥
+  limits-expected before c _ (too_deep l) e = cc
+  limits-expected before c _ (many_arguments n l) e = cc
+
+  refused-parts : (before : List Lexeme) (c : Lexeme) (code : Code) → IsRefused (IsFormula logic parameters) (FormulaLimits logic parameters) before c code
+      → ((code ≡ Unexpected) × (BeginsFormula logic parameters (before ++ c ∷ []) → ⊥))
+      ⊎ (BeginsFormula logic parameters (before ++ c ∷ []) × FormulaLimits logic parameters before c code)
+  refused-parts before c _ (unexpected n) = inl (refl, n)
+  refused-parts before c _ (limit b l) = inr (b, l)
+
   -- the answer is `Unexpected` exactly where no formula begins so
   pub unexpected-told : (before : List Lexeme) (c : Lexeme) → answer before c ≡ Err Unexpected ↔ (BeginsFormula logic parameters (before ++ c ∷ []) → ⊥)
-  unexpected-told before c = (λ e. refused-unexpected before c Unexpected refl ((refused-told before c Unexpected).0 e), λ n. (refused-told before c Unexpected).1 (unexpected n)) where
-    refused-unexpected : (before : List Lexeme) (c : Lexeme) (code : Code) → code ≡ Unexpected
-        → IsRefused (IsFormula logic parameters) (FormulaLimits logic parameters) before c code → BeginsFormula logic parameters (before ++ c ∷ []) → ⊥
-    refused-unexpected before c _ e (unexpected n) b = n b
-    refused-unexpected before c _ e (limit d (too_deep l)) b = cc
-    refused-unexpected before c _ e (limit d (many_arguments n l)) b = cc
+  unexpected-told before c = (
+    λ e. from (refused-parts before c Unexpected ((refused-told before c Unexpected).0 e)),
+    λ n. (refused-told before c Unexpected).1 (unexpected n)
+  ) where
+    from : ((Unexpected ≡ Unexpected) × (BeginsFormula logic parameters (before ++ c ∷ []) → ⊥))
+        ⊎ (BeginsFormula logic parameters (before ++ c ∷ []) × FormulaLimits logic parameters before c Unexpected)
+        → BeginsFormula logic parameters (before ++ c ∷ []) → ⊥
+    from (inl n) b = n.1 b
+    from (inr l) b = limits-expected before c Unexpected l.1 refl
+
+  -- it is another code exactly where a formula begins so, and the limit forbids the token
+  pub limit-told : (before : List Lexeme) (c : Lexeme) (code : Code) → (code ≡ Unexpected → ⊥)
+      → answer before c ≡ Err code ↔ (BeginsFormula logic parameters (before ++ c ∷ []) × FormulaLimits logic parameters before c code)
+  limit-told before c code other = (
+    λ e. from (refused-parts before c code ((refused-told before c code).0 e)),
+    λ l. (refused-told before c code).1 (limit l.0 l.1)
+  ) where
+    from : ((code ≡ Unexpected) × (BeginsFormula logic parameters (before ++ c ∷ []) → ⊥))
+        ⊎ (BeginsFormula logic parameters (before ++ c ∷ []) × FormulaLimits logic parameters before c code)
+        → BeginsFormula logic parameters (before ++ c ∷ []) × FormulaLimits logic parameters before c code
+    from (inl n) = absurd (other n.0)
+    from (inr l) = l
