@@ -1,9 +1,9 @@
 -- The machine of formulas reads the tokens of each formula whole.
-use Rattle.std.proofs.Common.{◌≡◌, ℕ, Bool, true, false, List, [], ◌∷◌, ◌++◌, refl, ap, sym, ◌∙◌, append-nil, Option, Some, None}
+use Rattle.std.proofs.Common.{◌≡◌, ℕ, Bool, true, false, List, [], ◌∷◌, ◌++◌, refl, ap, ◌∙◌, Some}
 use Rattle.fpc_base.specs.declared.tokens.lexeme.Sign.TheVariants as sign
-use Rattle.fpc_base.specs.Lexeme.{Lexeme, a_name, a_variable, a_number, a_sign, unused}
+use Rattle.fpc_base.specs.Lexeme.{Lexeme, a_name, a_variable, a_sign}
 use Rattle.term_grammar.specs.Written.{WrittenTerm, WrittenArgs, no_words, words, term_tokens, args_tokens, more_tokens, AreKnown}
-use Rattle.term_grammar.specs.Spot.{Spot, alone, in_arguments, in_term, tokens_to, IsSpotKnown}
+use Rattle.term_grammar.specs.Spot.{Spot, in_arguments, tokens_to, IsSpotKnown}
 use Rattle.term_grammar.specs.Machine as term
 use Rattle.term_grammar.proofs.States as of_term
 use Rattle.term_grammar.proofs.TermLaws.{IsBehind}
@@ -17,8 +17,8 @@ use Rattle.formula_grammar.specs.declared.connective.Joiner.TheVariants.{And, Or
 use Rattle.formula_grammar.specs.declared.connective.Binder.{Binder}
 use Rattle.formula_grammar.specs.declared.connective.Binder.TheVariants.{ForAll, Exists}
 use Rattle.formula_grammar.specs.Written.{WrittenFormula, true_unit, false_unit, literal, pair, bind, formula_tokens, mark_tokens, joiner_sign, binder_sign, IsJoinerOf, IsFalseOf, IsBound, IsWrittenIn, is_known}
-use Rattle.formula_grammar.specs.Place.{Place, whole, in_first, in_second, under, scope_at, tokens_to_place, IsArgument}
-use Rattle.formula_grammar.specs.Machine.{FormulaState, wants, marked, binding, bound_to, named, in_atom, has, stuck, begun, joiner_of, joined, after, within_atom, step, run, ended_at, whole_of}
+use Rattle.formula_grammar.specs.Place.{Place, whole, in_first, in_second, under, scope_at, tokens_to_place}
+use Rattle.formula_grammar.specs.Machine.{wants, named, in_atom, has, joiner_of, joined, within_atom, run, ended_at, whole_of}
 use Rattle.formula_grammar.proofs.States.{IsPlaceOf}
 
 pub joiner_of-joiner_sign : (logic : Logic) (j : Joiner) → IsJoinerOf logic j → joiner_of logic (joiner_sign logic j) ≡ Some j

@@ -1,19 +1,18 @@
 -- What the machine of formulas tells of the tokens so far.
-use Rattle.std.proofs.Common.{◌≡◌, ◌↔◌, ℕ, Bool, true, false, List, [], ◌∷◌, ◌++◌, refl, ap, sym, subst, ◌∙◌, append-nil, length, Option, Some, None, is_some}
+use Rattle.std.proofs.Common.{◌≡◌, ◌↔◌, ℕ, Bool, true, List, [], ◌∷◌, ◌++◌, refl, ap, sym, subst, ◌∙◌, append-nil, length, Some, is_some}
 use Rattle.std.proofs.lemmas.Bool.{false≢true}
-use Rattle.fpc_base.specs.declared.tokens.lexeme.Sign.{Sign}
 use Rattle.fpc_base.specs.declared.tokens.lexeme.Sign.TheVariants as sign
-use Rattle.fpc_base.specs.Lexeme.{Lexeme, a_name, a_variable, a_sign}
+use Rattle.fpc_base.specs.Lexeme.{Lexeme, a_sign}
 use Rattle.fpc_base.specs.Reading.{Begins, IsFinal}
 use Rattle.term_grammar.specs.Written.{no_words}
 use Rattle.term_grammar.specs.Spot.{Spot, alone, in_arguments, in_term, done_at}
 use Rattle.term_grammar.specs.Machine as term
 use Rattle.term_grammar.proofs.States as of_term
 use Rattle.polarised_formulas.specs.declared.logic.Logic.{Logic}
-use Rattle.formula_grammar.specs.Written.{WrittenFormula, literal, pair, bind, formula_tokens, IsBound, IsWrittenIn, IsFormula}
-use Rattle.formula_grammar.specs.Place.{Place, whole, in_first, in_second, under, scope_at, nesting, tokens_to_place, FormulaLimits, LeadsTo, LeadsInto, IsArgument}
-use Rattle.formula_grammar.specs.Machine.{FormulaState, wants, marked, binding, bound_to, named, in_atom, has, stuck, after, step, run, ended_at, whole_of, is_ended}
-use Rattle.formula_grammar.proofs.States.{tokens_before, IsPlaceOf, IsStateOf, IsLive, Leads}
+use Rattle.formula_grammar.specs.Written.{WrittenFormula, literal, bind, formula_tokens, IsBound, IsWrittenIn, IsFormula}
+use Rattle.formula_grammar.specs.Place.{Place, whole, in_first, in_second, under, nesting, tokens_to_place, FormulaLimits, LeadsTo, LeadsInto, IsArgument}
+use Rattle.formula_grammar.specs.Machine.{FormulaState, wants, named, in_atom, has, stuck, after, step, run, ended_at, whole_of, is_ended}
+use Rattle.formula_grammar.proofs.States.{tokens_before, IsStateOf, IsLive}
 use Rattle.formula_grammar.proofs.Sound.{run-append, run-leads, live-run}
 use Rattle.formula_grammar.proofs.Complete.{run-ends, run-tokens_to_place, run-tokens_to}
 use Rattle.formula_grammar.proofs.Viable.{Ends, ends}

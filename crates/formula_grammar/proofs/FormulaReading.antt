@@ -1,16 +1,16 @@
 -- A loop that reads a formula at the front of some items, a token at a time.
-use Rattle.std.proofs.Common.{◌≡◌, ℕ, Bool, true, false, List, [], ◌∷◌, ◌++◌, refl, ap, sym, subst, ◌∙◌, Option, Some, None, is_some, Result, Ok, Err}
+use Rattle.std.proofs.Common.{◌≡◌, ℕ, true, false, List, [], ◌∷◌, ◌++◌, refl, ap, sym, ◌∙◌, Some, None, Ok, Err}
 use Rattle.std.proofs.lemmas.Bool.{false≢true}
 use Rattle.fpc_base.specs.declared.refusal.Code.{Code}
 use Rattle.fpc_base.specs.declared.refusal.Code.TheVariants.{Unexpected}
 use Rattle.fpc_base.specs.declared.refusal.Refusal.{Refusal}
-use Rattle.fpc_base.specs.Lexeme.{Lexeme, a_sign, Item, says, fault}
+use Rattle.fpc_base.specs.Lexeme.{Lexeme, Item, says, fault}
 use Rattle.fpc_base.specs.Reading.{IsTaken, IsRefused, IsFinal, ReadsFront, RefusesFront}
 use Rattle.fpc_base.specs.Reading as reading
 use Rattle.polarised_formulas.specs.declared.logic.Logic.{Logic}
 use Rattle.formula_grammar.specs.Written.{WrittenFormula, IsFormula}
-use Rattle.formula_grammar.specs.Place.{Place, whole, FormulaLimits}
-use Rattle.formula_grammar.specs.Machine.{FormulaState, wants, has, ended_at, whole_of, is_ended, limited, step}
+use Rattle.formula_grammar.specs.Place.{whole, FormulaLimits}
+use Rattle.formula_grammar.specs.Machine.{FormulaState, wants, whole_of, is_ended, limited}
 use Rattle.formula_grammar.proofs.ReadingLaws.{LeadsFront, LeadsFront-start, LeadsFront-taken, RefusesFront-refused, front-once, front-refused_once, front-not_both}
 use Rattle.formula_grammar.proofs.FormulaLaws.{formula-once, state_behind, state_behind-step, whole-formula, formula-whole, final-told}
 use Rattle.formula_grammar.proofs.Limits.{limits-once, refused-told, taken-told, unexpected-told}

@@ -1,17 +1,17 @@
 -- A token behind others is refused or taken as the machine says.
-use Rattle.std.proofs.Common.{◌≡◌, ◌↔◌, ◌⊎◌, inl, inr, ℕ, Bool, true, false, List, [], ◌∷◌, ◌++◌, refl, ap, sym, subst, ◌∙◌, length, nat_eq, Option, Some, None, Result, Ok, Err}
+use Rattle.std.proofs.Common.{◌≡◌, ◌↔◌, ◌⊎◌, inl, inr, ℕ, Bool, true, false, List, [], ◌∷◌, ◌++◌, refl, ap, sym, subst, ◌∙◌, length, Result, Ok, Err}
 use Rattle.std.proofs.lemmas.Bool.Decides.{Decides-eqb}
 use Rattle.std.proofs.lemmas.Bool.{false≢true}
 use Rattle.fpc_base.specs.declared.refusal.Code.{Code}
-use Rattle.fpc_base.specs.declared.refusal.Code.TheVariants.{Unexpected, TooDeep, ManyArguments}
-use Rattle.fpc_base.specs.Lexeme.{Lexeme, a_name, a_variable, a_sign}
-use Rattle.fpc_base.specs.Reading.{Begins, IsTaken, IsRefused, unexpected, limited as limit}
-use Rattle.term_grammar.specs.Spot.{Spot, done_at}
+use Rattle.fpc_base.specs.declared.refusal.Code.TheVariants.{Unexpected}
+use Rattle.fpc_base.specs.Lexeme.{Lexeme}
+use Rattle.fpc_base.specs.Reading.{IsTaken, IsRefused, unexpected, limited as limit}
+use Rattle.term_grammar.specs.Spot.{done_at}
 use Rattle.term_grammar.specs.Machine as term
 use Rattle.polarised_formulas.specs.declared.logic.Logic.{Logic}
 use Rattle.formula_grammar.specs.Written.{IsFormula}
 use Rattle.formula_grammar.specs.Place.{Place, nesting, FormulaLimits, too_deep, many_arguments, LeadsTo, LeadsInto}
-use Rattle.formula_grammar.specs.Machine.{FormulaState, wants, marked, binding, bound_to, named, in_atom, has, stuck, step, is_deep, is_full, within, limited}
+use Rattle.formula_grammar.specs.Machine.{FormulaState, wants, in_atom, stuck, step, is_deep, is_full, within, limited}
 use Rattle.formula_grammar.proofs.States.{IsLive}
 use Rattle.formula_grammar.proofs.ReadingLaws.{taken-refused, refused-once}
 use Rattle.formula_grammar.proofs.FormulaLaws.{formula-once, state_behind, BeginsFormula, state_behind-step, step-begins, begins-step, state-leads_to, leads_to-state, state-leads_into, leads_into-state}
@@ -60,7 +60,7 @@ module _ (logic : Logic) (parameters : List (List ℕ)) where
       begins = step-begins logic parameters before c (rw e tt);
       free = free before c d (ap is_full (state_behind-step logic parameters before c ∙ e) ∙ f);
     },
-    refl
+    refl,
   )
 
   -- the limits judge each token
@@ -99,7 +99,7 @@ module _ (logic : Logic) (parameters : List (List ℕ)) where
       → answer before c ≡ Err code ↔ IsRefused (IsFormula logic parameters) (FormulaLimits logic parameters) before c code
   refused-told before c code = (
     λ e. subst (IsJudged logic parameters before c (step logic parameters (state_behind logic parameters before) c)) e (limited-judged logic parameters before c),
-    answer-refused before c (step logic parameters (state_behind logic parameters before) c) (answer before c) code (limited-judged logic parameters before c)
+    answer-refused before c (step logic parameters (state_behind logic parameters before) c) (answer before c) code (limited-judged logic parameters before c),
   )
 
   -- a token is taken exactly where the answer is the next state
@@ -108,7 +108,7 @@ module _ (logic : Logic) (parameters : List (List ℕ)) where
       ↔ (IsTaken (IsFormula logic parameters) (FormulaLimits logic parameters) before c × (step logic parameters (state_behind logic parameters before) c ≡ t))
   taken-told before c t = (
     λ e. subst (IsJudged logic parameters before c (step logic parameters (state_behind logic parameters before) c)) e (limited-judged logic parameters before c),
-    λ h. answer-taken before c (step logic parameters (state_behind logic parameters before) c) (answer before c) (limited-judged logic parameters before c) h.0 ∙ ap Ok h.1
+    λ h. answer-taken before c (step logic parameters (state_behind logic parameters before) c) (answer before c) (limited-judged logic parameters before c) h.0 ∙ ap Ok h.1,
   )
 
   limits-expected : (before : List Lexeme) (c : Lexeme) (code : Code) → FormulaLimits logic parameters before c code → code ≡ Unexpected → ⊥
@@ -125,7 +125,7 @@ module _ (logic : Logic) (parameters : List (List ℕ)) where
   pub unexpected-told : (before : List Lexeme) (c : Lexeme) → answer before c ≡ Err Unexpected ↔ (BeginsFormula logic parameters (before ++ c ∷ []) → ⊥)
   unexpected-told before c = (
     λ e. from (refused-parts before c Unexpected ((refused-told before c Unexpected).0 e)),
-    λ n. (refused-told before c Unexpected).1 (unexpected n)
+    λ n. (refused-told before c Unexpected).1 (unexpected n),
   ) where
     from : ((Unexpected ≡ Unexpected) × (BeginsFormula logic parameters (before ++ c ∷ []) → ⊥))
         ⊎ (BeginsFormula logic parameters (before ++ c ∷ []) × FormulaLimits logic parameters before c Unexpected)
@@ -138,7 +138,7 @@ module _ (logic : Logic) (parameters : List (List ℕ)) where
       → answer before c ≡ Err code ↔ (BeginsFormula logic parameters (before ++ c ∷ []) × FormulaLimits logic parameters before c code)
   limit-told before c code other = (
     λ e. from (refused-parts before c code ((refused-told before c code).0 e)),
-    λ l. (refused-told before c code).1 (limit l.0 l.1)
+    λ l. (refused-told before c code).1 (limit l.0 l.1),
   ) where
     from : ((code ≡ Unexpected) × (BeginsFormula logic parameters (before ++ c ∷ []) → ⊥))
         ⊎ (BeginsFormula logic parameters (before ++ c ∷ []) × FormulaLimits logic parameters before c code)

@@ -2,9 +2,8 @@
 use Rattle.std.proofs.Common.{◌≡◌, ◌↔◌, ℕ, Bool, true, false, if◌then◌else◌, List, [], ◌∷◌, ◌++◌, refl, ap, sym, subst, ◌∙◌, append-nil, append_assoc, codes, Option, Some, None}
 use Rattle.std.specs.Str.{bytes_eq}
 use Rattle.std.proofs.lemmas.Slice.Eq.{bytes_eq-Decides}
-use Rattle.fpc_base.specs.declared.tokens.lexeme.Sign.{Sign}
 use Rattle.fpc_base.specs.declared.tokens.lexeme.Sign.TheVariants as sign
-use Rattle.fpc_base.specs.Lexeme.{Lexeme, a_name, a_variable, a_number, a_sign, unused}
+use Rattle.fpc_base.specs.Lexeme.{Lexeme, a_name, a_variable, a_sign}
 use Rattle.fpc_base.specs.Reading.{Begins}
 use Rattle.term_grammar.specs.Written.{WrittenTerm, WrittenArgs, application, no_words, words, term_tokens, args_tokens, more_tokens}
 use Rattle.term_grammar.specs.Spot.{Spot, alone, in_arguments, in_term}
@@ -12,13 +11,12 @@ use Rattle.term_grammar.specs.Machine as term
 use Rattle.term_grammar.proofs.TermLaws as term_laws
 use Rattle.polarised_formulas.specs.declared.logic.Logic.{Logic}
 use Rattle.polarised_formulas.specs.declared.logic.Logic.TheVariants.{Lkf, Ljf}
-use Rattle.polarised_formulas.specs.declared.logic.Polarity.TheVariants.{Positive}
 use Rattle.formula_grammar.specs.Written.{WrittenFormula, true_unit, false_unit, literal, pair, bind, formula_tokens, mark_tokens, joiner_sign, binder_sign, IsFormula, WrittenProblem, IsProblem, logic_word, is_known}
 use Rattle.formula_grammar.specs.Place.{Place, whole, in_first, in_second, under, scope_at, ProblemLimits}
 use Rattle.formula_grammar.specs.Machine.{FormulaState, wants, marked, binding, bound_to, named, in_atom, has, stuck, after, within_atom, step, run, whole_of, ProblemState, start, reading, finished, lost, logic_of, begun_in, read_on, dotted, problem_step, problem_run}
 use Rattle.formula_grammar.proofs.States.{IsLive}
-use Rattle.formula_grammar.proofs.Sound.{live-run, run-stuck, run-append}
-use Rattle.formula_grammar.proofs.FormulaLaws.{state_behind, BeginsFormula, whole-live, live-begins, begins-live, whole-formula, formula-whole}
+use Rattle.formula_grammar.proofs.Sound.{live-run}
+use Rattle.formula_grammar.proofs.FormulaLaws.{state_behind, BeginsFormula, whole-live, live-begins, whole-formula, formula-whole}
 
 -- the tokens of a formula before others are these tokens and the others behind them
 args-append : (args : WrittenArgs) (xs rest : List Lexeme) → args_tokens args (xs ++ rest) ≡ args_tokens args xs ++ rest
@@ -258,20 +256,26 @@ begins-live_problem tokens b =
     (rw (sym (problem_run-append tokens b.0 start) ∙ problem-finished (tokens ++ b.0) b.1.0 b.1.1) tt)
 
 begins-within : (logic : Logic) (cs tokens : List Lexeme) → tokens ≡ logic_word logic ∷ cs → BeginsFormula logic [] cs → BeginsProblem tokens
-begins-within logic cs tokens e b =
-    (b.0 ++ a_sign sign.Dot ∷ [],
-    (record { logic = logic; formula = b.1.0 },
+begins-within logic cs tokens e b = (
+  b.0 ++ a_sign sign.Dot ∷ [],
+  (
+    record { logic = logic; formula = b.1.0 },
     formula-problem logic (cs ++ b.0) (tokens ++ (b.0 ++ a_sign sign.Dot ∷ [])) b.1.0
-    (ap (λ l. l ++ (b.0 ++ a_sign sign.Dot ∷ [])) e ∙ ap (λ l. logic_word logic ∷ l) (sym (append_assoc cs b.0 (a_sign sign.Dot ∷ []))))
-    b.1.1))
+        (ap (λ l. l ++ (b.0 ++ a_sign sign.Dot ∷ [])) e ∙ ap (λ l. logic_word logic ∷ l) (sym (append_assoc cs b.0 (a_sign sign.Dot ∷ []))))
+        b.1.1,
+  ),
+)
 
 live-stands : (tokens : List Lexeme) (s : ProblemState) → IsLiveProblem s → Stands tokens s → BeginsProblem tokens
 live-stands tokens _ live (at_start e) =
-    let b : BeginsFormula Lkf [] [] = live-begins Lkf [] [] tt in
-    (logic_word Lkf ∷ b.0 ++ a_sign sign.Dot ∷ [],
-    (record { logic = Lkf; formula = b.1.0 },
-    formula-problem Lkf b.0 (tokens ++ (logic_word Lkf ∷ b.0 ++ a_sign sign.Dot ∷ [])) b.1.0
-    (ap (λ l. l ++ (logic_word Lkf ∷ b.0 ++ a_sign sign.Dot ∷ [])) e) b.1.1))
+    let b : BeginsFormula Lkf [] [] = live-begins Lkf [] [] tt in (
+      logic_word Lkf ∷ b.0 ++ a_sign sign.Dot ∷ [],
+      (
+        record { logic = Lkf; formula = b.1.0 },
+        formula-problem Lkf b.0 (tokens ++ (logic_word Lkf ∷ b.0 ++ a_sign sign.Dot ∷ [])) b.1.0
+            (ap (λ l. l ++ (logic_word Lkf ∷ b.0 ++ a_sign sign.Dot ∷ [])) e) b.1.1,
+      ),
+    )
 live-stands tokens _ live (within_formula logic cs s e r l) = begins-within logic cs tokens e (live-begins logic [] cs (rw r l))
 live-stands tokens _ live (at_end logic cs w e f) =
     ([], (record { logic = logic; formula = w }, formula-problem logic cs (tokens ++ []) w (append-nil tokens ∙ e) f))

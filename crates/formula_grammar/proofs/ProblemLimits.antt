@@ -1,21 +1,21 @@
 -- A token of a problem is refused or taken as the machine says.
-use Rattle.std.proofs.Common.{◌≡◌, ◌↔◌, ◌⊎◌, inl, inr, ℕ, Bool, true, false, if◌then◌else◌, List, [], ◌∷◌, ◌++◌, refl, ap, sym, subst, ◌∙◌, codes, Option, Some, None, Result, Ok, Err}
+use Rattle.std.proofs.Common.{◌≡◌, ◌↔◌, ◌⊎◌, inl, inr, ℕ, List, [], ◌∷◌, ◌++◌, refl, ap, sym, subst, ◌∙◌, Option, Some, None, Result, Ok, Err}
 use Rattle.fpc_base.specs.declared.refusal.Code.{Code}
-use Rattle.fpc_base.specs.declared.refusal.Code.TheVariants.{NotBuilt, Unexpected, TooDeep, ManyArguments}
+use Rattle.fpc_base.specs.declared.refusal.Code.TheVariants.{NotBuilt, Unexpected}
 use Rattle.fpc_base.specs.declared.tokens.lexeme.Sign.TheVariants as sign
-use Rattle.fpc_base.specs.Lexeme.{Lexeme, a_name, a_variable, a_number, a_sign, unused}
+use Rattle.fpc_base.specs.Lexeme.{Lexeme, a_name, a_sign}
 use Rattle.fpc_base.specs.Reading.{IsTaken, IsRefused}
 use Rattle.fpc_base.specs.Reading as read
 use Rattle.polarised_formulas.specs.declared.logic.Logic.{Logic}
 use Rattle.polarised_formulas.specs.declared.logic.Logic.TheVariants.{Lkf, Ljf}
-use Rattle.formula_grammar.specs.Written.{WrittenFormula, IsFormula, WrittenProblem, IsProblem, logic_word}
-use Rattle.formula_grammar.specs.Place.{LeadsTo, LeadsInto, FormulaLimits, too_deep, many_arguments, ProblemLimits, not_built, in_formula}
-use Rattle.formula_grammar.specs.Machine.{FormulaState, wants, stuck, in_atom, step, whole_of, limited, ProblemState, start, reading, finished, lost, logic_of, begun_in, dotted, read_on, begun_within, dotted_within, read_within, problem_step, limited_problem}
+use Rattle.formula_grammar.specs.Written.{WrittenFormula, IsProblem, logic_word}
+use Rattle.formula_grammar.specs.Place.{FormulaLimits, too_deep, many_arguments, ProblemLimits, not_built, in_formula}
+use Rattle.formula_grammar.specs.Machine.{FormulaState, wants, stuck, step, whole_of, limited, ProblemState, reading, lost, logic_of, begun_in, dotted, read_on, begun_within, dotted_within, read_within, problem_step, limited_problem}
 use Rattle.formula_grammar.proofs.States.{IsLive}
 use Rattle.formula_grammar.proofs.ReadingLaws.{taken-refused, refused-once}
-use Rattle.formula_grammar.proofs.FormulaLaws.{state_behind, BeginsFormula, state_behind-step, step-begins, begins-step, leads_to-state, leads_into-state}
+use Rattle.formula_grammar.proofs.FormulaLaws.{state_behind, state_behind-step, step-begins, begins-step, leads_to-state, leads_into-state}
 use Rattle.formula_grammar.proofs.Limits.{IsJudged, limited-judged, limits-once}
-use Rattle.formula_grammar.proofs.ProblemLaws.{step-dot, logic_of-word, read_on-live, IsLiveProblem, problem_behind, BeginsProblem, Stands, at_start, within_formula, at_end, nowhere, stands, problem-once, step-begins_problem, begins-step_problem}
+use Rattle.formula_grammar.proofs.ProblemLaws.{step-dot, logic_of-word, read_on-live, IsLiveProblem, problem_behind, Stands, at_start, within_formula, at_end, nowhere, stands, problem-once, step-begins_problem, begins-step_problem}
 
 -- the limits of a formula behind the word of its logic
 record OfFormula (before : List Lexeme) (c : Lexeme) (code : Code) : Type 0 where
@@ -91,7 +91,7 @@ judged-start : (before : List Lexeme) (x : List ℕ) (o : Option Logic) → befo
     → problem_step (problem_behind before) (a_name x) ≡ begun_in o → IsProblemJudged before (a_name x) (begun_in o) (begun_within o)
 judged-start before x (Some Lkf) e o s = (
   record { begins = step-begins_problem before (a_name x) (rw s tt); free = λ code l. no-limit (limits-are before (a_name x) code l) },
-  refl
+  refl,
 ) where
   no-limit : {code : Code} → OfWord before (a_name x) code ⊎ OfFormula before (a_name x) code → ⊥
   no-limit (inl w) = let f : Lkf ≡ Ljf = word-once Lkf Ljf [] [] (ap (λ c. c ∷ []) (sym (logic_of-word x Lkf o) ∙ w.word)) in cc
@@ -109,7 +109,7 @@ judged-dot before logic cs (Some w) e o s = (
     begins = step-begins_problem before (a_sign sign.Dot) (rw s tt);
     free = λ code l. dot-free logic cs w code o (within-limits logic cs before (a_sign sign.Dot) code e l);
   },
-  refl
+  refl,
 )
 judged-dot before logic cs None e o s = no-problem before (a_sign sign.Dot) s
 
@@ -120,13 +120,12 @@ judged-within : (before : List Lexeme) (logic : Logic) (cs : List Lexeme) (c : L
 judged-within before logic cs c (Ok u) e s j =
     let live : IsLive (step logic [] (state_behind logic [] cs) c) = begins-step logic [] cs c j.0.begins in
     let t : read_on logic (step logic [] (state_behind logic [] cs) c) ≡ reading logic (step logic [] (state_behind logic [] cs) c) =
-        read_on-live logic (step logic [] (state_behind logic [] cs) c) live in
-    (
+    read_on-live logic (step logic [] (state_behind logic [] cs) c) live in (
       record {
         begins = step-begins_problem before c (rw (s ∙ t) tt);
         free = λ code l. j.0.free code (within-limits logic cs before c code e l);
       },
-      t ∙ ap (reading logic) j.1
+      t ∙ ap (reading logic) j.1,
     )
 judged-within before logic cs c (Err _) e s (read.IsRefused.unexpected n) =
     no-problem before c (s ∙ ap (read_on logic) (stuck-is (step logic [] (state_behind logic [] cs) c) (λ live. n (step-begins logic [] cs c live))))
@@ -142,7 +141,7 @@ judged-reading before logic cs s (a_sign sign.Dot) e r t =
     judged-dot before logic cs (whole_of s) e (ap whole_of r) t
 judged-reading before logic cs s c e r t =
     subst (λ u. problem_step (problem_behind before) c ≡ read_on logic (step logic [] u c)
-        → IsProblemJudged before c (read_on logic (step logic [] u c)) (read_within logic (limited logic [] u c))) r
+    → IsProblemJudged before c (read_on logic (step logic [] u c)) (read_within logic (limited logic [] u c))) r
     (λ q. judged-within before logic cs c (limited logic [] (state_behind logic [] cs) c) e q (limited-judged logic [] cs c)) t
 
 judged-stands : (before : List Lexeme) (c : Lexeme) (s : ProblemState) → problem_behind before ≡ s → Stands before s
@@ -183,7 +182,7 @@ pub problem_refused-told : (before : List Lexeme) (c : Lexeme) (code : Code)
     → limited_problem (problem_behind before) c ≡ Err code ↔ IsRefused IsProblem ProblemLimits before c code
 problem_refused-told before c code = (
   λ e. subst (IsProblemJudged before c (problem_step (problem_behind before) c)) e (limited_problem-judged before c),
-  answer-refused before c (problem_step (problem_behind before) c) (limited_problem (problem_behind before) c) code (limited_problem-judged before c)
+  answer-refused before c (problem_step (problem_behind before) c) (limited_problem (problem_behind before) c) code (limited_problem-judged before c),
 )
 
 -- a token is taken exactly where the answer is the next state
@@ -192,5 +191,5 @@ pub problem_taken-told : (before : List Lexeme) (c : Lexeme) (t : ProblemState)
     ↔ (IsTaken IsProblem ProblemLimits before c × (problem_step (problem_behind before) c ≡ t))
 problem_taken-told before c t = (
   λ e. subst (IsProblemJudged before c (problem_step (problem_behind before) c)) e (limited_problem-judged before c),
-  λ h. answer-taken before c (problem_step (problem_behind before) c) (limited_problem (problem_behind before) c) (limited_problem-judged before c) h.0 ∙ ap Ok h.1
+  λ h. answer-taken before c (problem_step (problem_behind before) c) (limited_problem (problem_behind before) c) (limited_problem-judged before c) h.0 ∙ ap Ok h.1,
 )

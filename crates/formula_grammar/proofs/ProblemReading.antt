@@ -1,5 +1,5 @@
 -- A loop that reads a problem to the end of some items, a token at a time.
-use Rattle.std.proofs.Common.{◌≡◌, ◌↔◌, ℕ, List, [], ◌∷◌, ◌++◌, refl, ap, sym, ◌∙◌, Option, Some, None, Result, Ok, Err}
+use Rattle.std.proofs.Common.{◌≡◌, ◌↔◌, ℕ, List, [], ◌∷◌, ◌++◌, refl, ap, sym, ◌∙◌, Some, None, Ok, Err}
 use Rattle.fpc_base.specs.declared.refusal.Code.{Code}
 use Rattle.fpc_base.specs.declared.refusal.Code.TheVariants.{Unexpected}
 use Rattle.fpc_base.specs.declared.refusal.Refusal.{Refusal}
@@ -8,7 +8,7 @@ use Rattle.fpc_base.specs.Reading.{ReadsAll, RefusesAll}
 use Rattle.fpc_base.specs.Reading as reading
 use Rattle.formula_grammar.specs.Written.{WrittenProblem, IsProblem}
 use Rattle.formula_grammar.specs.Place.{ProblemLimits}
-use Rattle.formula_grammar.specs.Machine.{ProblemState, start, reading as within, finished, lost, problem_step, problem_of, limited_problem}
+use Rattle.formula_grammar.specs.Machine.{ProblemState, start, finished, problem_of, limited_problem}
 use Rattle.formula_grammar.proofs.ReadingLaws.{LeadsAll, LeadsAll-start, LeadsAll-taken, all-not_both, all-once, all-refused_once}
 use Rattle.formula_grammar.proofs.ProblemLaws.{problem_behind, problem_behind-step, problem-finished, finished-problem, problem-once}
 use Rattle.formula_grammar.proofs.ProblemLimits.{problem_limits-once, problem_refused-told, problem_taken-told}

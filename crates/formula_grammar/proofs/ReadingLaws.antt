@@ -3,7 +3,7 @@ use Rattle.std.proofs.Common.{◌≡◌, ℕ, List, [], ◌∷◌, ◌++◌, ref
 use Rattle.fpc_base.specs.declared.refusal.Code.{Code}
 use Rattle.fpc_base.specs.declared.refusal.Code.TheVariants.{Unexpected}
 use Rattle.fpc_base.specs.declared.refusal.Refusal.{Refusal}
-use Rattle.fpc_base.specs.Lexeme.{Lexeme, Item, says, fault}
+use Rattle.fpc_base.specs.Lexeme.{Lexeme, Item, says}
 use Rattle.fpc_base.specs.Reading.{Begins, IsTaken, IsRefused, ReadsAll, RefusesAll, IsFinal, ReadsFront, RefusesFront}
 use Rattle.fpc_base.specs.Reading as reading
 
@@ -69,9 +69,8 @@ module _ {W : Type 0} (IsWhole : List Lexeme → W → Type 0) (Limits : List Le
 
 -- where the same tokens are whole in one way, and one limit forbids a token
 module _ {W : Type 0} (IsWhole : List Lexeme → W → Type 0) (Limits : List Lexeme → Lexeme → Code → Type 0)
-  (one : (tokens : List Lexeme) (v w : W) → IsWhole tokens v → IsWhole tokens w → v ≡ w)
-  (one_code : (before : List Lexeme) (c : Lexeme) (a b : Code) → Limits before c a → Limits before c b → a ≡ b) where
-
+    (one : (tokens : List Lexeme) (v w : W) → IsWhole tokens v → IsWhole tokens w → v ≡ w)
+    (one_code : (before : List Lexeme) (c : Lexeme) (a b : Code) → Limits before c a → Limits before c b → a ≡ b) where
   -- a token is refused for one reason
   pub refused-once : {before : List Lexeme} {c : Lexeme} {a b : Code} → IsRefused IsWhole Limits before c a → IsRefused IsWhole Limits before c b → a ≡ b
   refused-once (reading.IsRefused.unexpected h) (reading.IsRefused.unexpected k) = refl

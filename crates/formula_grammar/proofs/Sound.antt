@@ -1,20 +1,18 @@
 -- What the machine of formulas read is what it was given.
-use Rattle.std.proofs.Common.{◌≡◌, ℕ, Bool, true, false, List, [], ◌∷◌, ◌++◌, refl, ap, sym, ◌∙◌, Option, Some, None}
+use Rattle.std.proofs.Common.{◌≡◌, ℕ, Bool, List, [], ◌∷◌, ◌++◌, refl, ap, ◌∙◌}
 use Rattle.fpc_base.specs.declared.tokens.lexeme.Sign.{Sign}
 use Rattle.fpc_base.specs.declared.tokens.lexeme.Sign.TheVariants as sign
 use Rattle.fpc_base.specs.Lexeme.{Lexeme, a_name, a_variable, a_sign}
 use Rattle.term_grammar.specs.Written.{no_words}
-use Rattle.term_grammar.specs.Spot.{in_arguments}
 use Rattle.term_grammar.specs.Machine as term
 use Rattle.term_grammar.proofs.States as of_term
 use Rattle.term_grammar.proofs.TermLaws as term_laws
 use Rattle.polarised_formulas.specs.declared.logic.Logic.{Logic}
 use Rattle.polarised_formulas.specs.declared.logic.Logic.TheVariants.{Lkf, Ljf}
-use Rattle.polarised_formulas.specs.declared.logic.Polarity.TheVariants.{Positive, Negative}
-use Rattle.formula_grammar.specs.Written.{WrittenFormula, literal, pair, bind, mark_tokens, IsBound, IsWrittenIn, is_known}
-use Rattle.formula_grammar.specs.Place.{Place, whole, in_first, in_second, under, scope_at, tokens_to_place}
+use Rattle.formula_grammar.specs.Written.{WrittenFormula, literal, bind, mark_tokens, is_known}
+use Rattle.formula_grammar.specs.Place.{Place, in_first, in_second, under, scope_at, tokens_to_place}
 use Rattle.formula_grammar.specs.Machine.{FormulaState, wants, marked, binding, bound_to, named, in_atom, has, stuck, begun, joiner_of, joined, after, within_atom, step, run}
-use Rattle.formula_grammar.proofs.States.{tokens_before, IsPlaceOf, IsGoing, IsStateOf, IsLive, Follows, Leads}
+use Rattle.formula_grammar.proofs.States.{tokens_before, IsPlaceOf, IsStateOf, IsLive, Follows, Leads}
 
 begun-follows : (logic : Logic) (parameters : List (List ℕ)) (s : Sign) (p : Place) → IsPlaceOf logic parameters p → IsLive (begun logic s p)
     → Follows logic parameters (wants p) (a_sign s) (begun logic s p)

@@ -1,11 +1,10 @@
 -- What a state of the machine of formulas has read.
-use Rattle.std.specs.Prelude.{◌≡◌, ℕ, Bool, List, [], ◌∷◌, ◌++◌}
-use Rattle.fpc_base.specs.declared.tokens.lexeme.Sign.TheVariants as sign
+use Rattle.std.specs.Prelude.{◌≡◌, ℕ, List, ◌∷◌, ◌++◌}
 use Rattle.fpc_base.specs.Lexeme.{Lexeme, a_name, a_variable, a_sign}
 use Rattle.term_grammar.specs.Machine as term
 use Rattle.term_grammar.proofs.States as of_term
 use Rattle.polarised_formulas.specs.declared.logic.Logic.{Logic}
-use Rattle.formula_grammar.specs.Written.{WrittenFormula, formula_tokens, mark_tokens, binder_sign, IsBound, IsWrittenIn, is_known}
+use Rattle.formula_grammar.specs.Written.{formula_tokens, mark_tokens, binder_sign, IsBound, IsWrittenIn, is_known}
 use Rattle.formula_grammar.specs.Place.{Place, tokens_to_place, scope_at, IsPlaceBound, IsPlaceIn}
 use Rattle.formula_grammar.specs.Machine.{FormulaState, wants, marked, binding, bound_to, named, in_atom, has, stuck}
 

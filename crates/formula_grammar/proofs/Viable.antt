@@ -1,19 +1,18 @@
 -- Each live state of the machine of formulas has tokens that end its formula.
-use Rattle.std.proofs.Common.{◌≡◌, ℕ, Bool, true, false, List, [], ◌∷◌, ◌++◌, refl, ap, sym, ◌∙◌, codes, Option, Some, None}
+use Rattle.std.proofs.Common.{◌≡◌, ℕ, Bool, List, [], ◌∷◌, ◌++◌, refl, ap, ◌∙◌, codes, Some}
 use Rattle.fpc_base.specs.declared.tokens.lexeme.Sign.TheVariants as sign
 use Rattle.fpc_base.specs.Lexeme.{Lexeme, a_name, a_variable, a_sign}
-use Rattle.term_grammar.specs.Written.{WrittenArgs, no_words, words, application}
+use Rattle.term_grammar.specs.Written.{no_words, words, application}
 use Rattle.term_grammar.specs.Machine as term
 use Rattle.term_grammar.proofs.States as of_term
 use Rattle.term_grammar.proofs.TermLaws as term_laws
 use Rattle.polarised_formulas.specs.declared.logic.Logic.{Logic}
-use Rattle.polarised_formulas.specs.declared.logic.Logic.TheVariants.{Lkf, Ljf}
-use Rattle.polarised_formulas.specs.declared.logic.Polarity.TheVariants.{Positive, Negative}
+use Rattle.polarised_formulas.specs.declared.logic.Polarity.TheVariants.{Positive}
 use Rattle.formula_grammar.specs.declared.connective.Joiner.TheVariants.{And}
 use Rattle.formula_grammar.specs.declared.connective.Binder.{Binder}
 use Rattle.formula_grammar.specs.Written.{WrittenFormula, true_unit, literal, pair, bind, is_known}
 use Rattle.formula_grammar.specs.Place.{Place, whole, in_first, in_second, under, scope_at}
-use Rattle.formula_grammar.specs.Machine.{FormulaState, wants, marked, binding, bound_to, named, in_atom, has, stuck, within_atom, step, run, ended_at, whole_of}
+use Rattle.formula_grammar.specs.Machine.{FormulaState, wants, marked, binding, bound_to, named, in_atom, has, stuck, within_atom, run, whole_of}
 use Rattle.formula_grammar.proofs.States.{IsGoing, IsStateOf, IsLive}
 use Rattle.formula_grammar.proofs.Complete.{run-to_atom}
 

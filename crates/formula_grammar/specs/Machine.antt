@@ -1,5 +1,5 @@
 -- A machine that reads the tokens of a formula or a problem, one after another, and keeps all that it read.
-use Rattle.std.specs.Prelude.{◌≡◌, ℕ, Bool, true, false, if◌then◌else◌, List, [], ◌∷◌, Option, Some, None, is_some, Result, Ok, Err, nat_eq, codes}
+use Rattle.std.specs.Prelude.{ℕ, Bool, true, false, if◌then◌else◌, List, [], ◌∷◌, Option, Some, None, is_some, Result, Ok, Err, nat_eq, codes}
 use Rattle.std.specs.Str.{bytes_eq}
 use Rattle.fpc_base.specs.declared.refusal.Code.{Code}
 use Rattle.fpc_base.specs.declared.refusal.Code.TheVariants.{NotBuilt, Unexpected, TooDeep, ManyArguments}
