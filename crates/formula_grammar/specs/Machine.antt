@@ -1,5 +1,5 @@
 -- A machine that reads the tokens of a formula or a problem, one after another, and keeps all that it read.
-use Rattle.std.specs.Prelude.{◌≡◌, ℕ, Bool, true, false, if◌then◌else◌, List, [], ◌∷◌, Option, Some, None, Result, Ok, Err, nat_eq, codes}
+use Rattle.std.specs.Prelude.{ℕ, Bool, true, false, if◌then◌else◌, List, [], ◌∷◌, Option, Some, None, is_some, Result, Ok, Err, nat_eq, codes}
 use Rattle.std.specs.Str.{bytes_eq}
 use Rattle.fpc_base.specs.declared.refusal.Code.{Code}
 use Rattle.fpc_base.specs.declared.refusal.Code.TheVariants.{NotBuilt, Unexpected, TooDeep, ManyArguments}
@@ -102,6 +102,11 @@ whole_of (has w p) = ended_at w p
 whole_of (named positive x p) = ended_at (literal positive x no_words) p
 whole_of _ = None
 
+-- the formula is whole, and no token goes on behind it
+abbrev pub is_ended : FormulaState → Bool
+is_ended (has w p) = is_some (ended_at w p)
+is_ended _ = false
+
 -- a formula that is nested 10,001 deep is to come
 abbrev pub is_deep : FormulaState → Bool
 is_deep (wants p) = nat_eq (nesting p) 10001
@@ -156,3 +161,29 @@ problem_step _ _ = lost
 abbrev pub problem_run : ProblemState → List Lexeme → ProblemState
 problem_run s [] = s
 problem_run s (c ∷ cs) = problem_run (problem_step s c) cs
+
+-- the problem, where the tokens so far are one
+abbrev pub problem_of : ProblemState → Option WrittenProblem
+problem_of (finished logic w) = let problem : WrittenProblem = record { logic = logic; formula = w } in Some problem
+problem_of _ = None
+
+-- the word of the logic, within the limits
+abbrev pub begun_within : Option Logic → Result ProblemState Code
+begun_within (Some Lkf) = Ok (reading Lkf (wants whole))
+begun_within (Some Ljf) = Err NotBuilt
+begun_within None = Err Unexpected
+
+abbrev pub dotted_within : Logic → Option WrittenFormula → Result ProblemState Code
+dotted_within logic (Some w) = Ok (finished logic w)
+dotted_within logic None = Err Unexpected
+
+abbrev pub read_within : Logic → Result FormulaState Code → Result ProblemState Code
+read_within logic (Ok s) = Ok (reading logic s)
+read_within logic (Err code) = Err code
+
+-- one token of a problem, with the limits
+abbrev pub limited_problem : ProblemState → Lexeme → Result ProblemState Code
+limited_problem start (a_name x) = begun_within (logic_of x)
+limited_problem (reading logic s) (a_sign sign.Dot) = dotted_within logic (whole_of s)
+limited_problem (reading logic s) c = read_within logic (limited logic [] s c)
+limited_problem _ _ = Err Unexpected
