@@ -2,12 +2,12 @@
 use Rattle.std.proofs.Common.{◌≡◌, ℕ, Bool, true, false, List, [], ◌∷◌, ◌++◌, refl, ap, ◌∙◌, Some}
 use Rattle.fpc_base.specs.declared.tokens.lexeme.Sign.TheVariants as sign
 use Rattle.fpc_base.specs.Lexeme.{Lexeme, a_name, a_variable, a_sign}
-use Rattle.term_grammar.specs.Written.{WrittenTerm, WrittenArgs, no_words, words, term_tokens, args_tokens, more_tokens, AreKnown}
-use Rattle.term_grammar.specs.Spot.{Spot, in_arguments, tokens_to, IsSpotKnown}
-use Rattle.term_grammar.specs.Machine as term
-use Rattle.term_grammar.proofs.States as of_term
-use Rattle.term_grammar.proofs.TermLaws.{IsBehind}
-use Rattle.term_grammar.proofs.TermLaws as term_laws
+use Rattle.fpc_terms.specs.Written.{WrittenTerm, WrittenArgs, no_words, words, term_tokens, args_tokens, more_tokens, AreKnown}
+use Rattle.fpc_terms.specs.Spot.{Spot, in_arguments, tokens_to, IsSpotKnown}
+use Rattle.fpc_terms.specs.Machine as term
+use Rattle.fpc_terms.proofs.States as of_term
+use Rattle.fpc_terms.proofs.TermLaws.{IsBehind}
+use Rattle.fpc_terms.proofs.TermLaws as term_laws
 use Rattle.polarised_formulas.specs.declared.logic.Logic.{Logic}
 use Rattle.polarised_formulas.specs.declared.logic.Logic.TheVariants.{Lkf, Ljf}
 use Rattle.polarised_formulas.specs.declared.logic.Polarity.{Polarity}

@@ -4,10 +4,10 @@ use Rattle.std.proofs.lemmas.Bool.{false≢true}
 use Rattle.fpc_base.specs.declared.tokens.lexeme.Sign.TheVariants as sign
 use Rattle.fpc_base.specs.Lexeme.{Lexeme, a_sign}
 use Rattle.fpc_base.specs.Reading.{Begins, IsFinal}
-use Rattle.term_grammar.specs.Written.{no_words}
-use Rattle.term_grammar.specs.Spot.{Spot, alone, in_arguments, in_term, done_at}
-use Rattle.term_grammar.specs.Machine as term
-use Rattle.term_grammar.proofs.States as of_term
+use Rattle.fpc_terms.specs.Written.{no_words}
+use Rattle.fpc_terms.specs.Spot.{Spot, alone, in_arguments, in_term, done_at}
+use Rattle.fpc_terms.specs.Machine as term
+use Rattle.fpc_terms.proofs.States as of_term
 use Rattle.polarised_formulas.specs.declared.logic.Logic.{Logic}
 use Rattle.formula_grammar.specs.Written.{WrittenFormula, literal, bind, formula_tokens, IsBound, IsWrittenIn, IsFormula}
 use Rattle.formula_grammar.specs.Place.{Place, whole, in_first, in_second, under, nesting, tokens_to_place, FormulaLimits, LeadsTo, LeadsInto, IsArgument}

@@ -6,8 +6,8 @@ use Rattle.fpc_base.specs.declared.refusal.Code.{Code}
 use Rattle.fpc_base.specs.declared.refusal.Code.TheVariants.{Unexpected}
 use Rattle.fpc_base.specs.Lexeme.{Lexeme}
 use Rattle.fpc_base.specs.Reading.{IsTaken, IsRefused, unexpected, limited as limit}
-use Rattle.term_grammar.specs.Spot.{done_at}
-use Rattle.term_grammar.specs.Machine as term
+use Rattle.fpc_terms.specs.Spot.{done_at}
+use Rattle.fpc_terms.specs.Machine as term
 use Rattle.polarised_formulas.specs.declared.logic.Logic.{Logic}
 use Rattle.formula_grammar.specs.Written.{IsFormula}
 use Rattle.formula_grammar.specs.Place.{Place, nesting, FormulaLimits, too_deep, many_arguments, LeadsTo, LeadsInto}

@@ -5,10 +5,10 @@ use Rattle.std.proofs.lemmas.Slice.Eq.{bytes_eq-Decides}
 use Rattle.fpc_base.specs.declared.tokens.lexeme.Sign.TheVariants as sign
 use Rattle.fpc_base.specs.Lexeme.{Lexeme, a_name, a_variable, a_sign}
 use Rattle.fpc_base.specs.Reading.{Begins}
-use Rattle.term_grammar.specs.Written.{WrittenTerm, WrittenArgs, application, no_words, words, term_tokens, args_tokens, more_tokens}
-use Rattle.term_grammar.specs.Spot.{Spot, alone, in_arguments, in_term}
-use Rattle.term_grammar.specs.Machine as term
-use Rattle.term_grammar.proofs.TermLaws as term_laws
+use Rattle.fpc_terms.specs.Written.{WrittenTerm, WrittenArgs, application, no_words, words, term_tokens, args_tokens, more_tokens}
+use Rattle.fpc_terms.specs.Spot.{Spot, alone, in_arguments, in_term}
+use Rattle.fpc_terms.specs.Machine as term
+use Rattle.fpc_terms.proofs.TermLaws as term_laws
 use Rattle.polarised_formulas.specs.declared.logic.Logic.{Logic}
 use Rattle.polarised_formulas.specs.declared.logic.Logic.TheVariants.{Lkf, Ljf}
 use Rattle.formula_grammar.specs.Written.{WrittenFormula, true_unit, false_unit, literal, pair, bind, formula_tokens, mark_tokens, joiner_sign, binder_sign, IsFormula, WrittenProblem, IsProblem, logic_word, is_known}

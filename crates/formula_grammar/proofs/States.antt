@@ -1,8 +1,8 @@
 -- What a state of the machine of formulas has read.
 use Rattle.std.specs.Prelude.{◌≡◌, ℕ, List, ◌∷◌, ◌++◌}
 use Rattle.fpc_base.specs.Lexeme.{Lexeme, a_name, a_variable, a_sign}
-use Rattle.term_grammar.specs.Machine as term
-use Rattle.term_grammar.proofs.States as of_term
+use Rattle.fpc_terms.specs.Machine as term
+use Rattle.fpc_terms.proofs.States as of_term
 use Rattle.polarised_formulas.specs.declared.logic.Logic.{Logic}
 use Rattle.formula_grammar.specs.Written.{formula_tokens, mark_tokens, binder_sign, IsBound, IsWrittenIn, is_known}
 use Rattle.formula_grammar.specs.Place.{Place, tokens_to_place, scope_at, IsPlaceBound, IsPlaceIn}

@@ -2,10 +2,10 @@
 use Rattle.std.proofs.Common.{◌≡◌, ℕ, Bool, List, [], ◌∷◌, ◌++◌, refl, ap, ◌∙◌, codes, Some}
 use Rattle.fpc_base.specs.declared.tokens.lexeme.Sign.TheVariants as sign
 use Rattle.fpc_base.specs.Lexeme.{Lexeme, a_name, a_variable, a_sign}
-use Rattle.term_grammar.specs.Written.{no_words, words, application}
-use Rattle.term_grammar.specs.Machine as term
-use Rattle.term_grammar.proofs.States as of_term
-use Rattle.term_grammar.proofs.TermLaws as term_laws
+use Rattle.fpc_terms.specs.Written.{no_words, words, application}
+use Rattle.fpc_terms.specs.Machine as term
+use Rattle.fpc_terms.proofs.States as of_term
+use Rattle.fpc_terms.proofs.TermLaws as term_laws
 use Rattle.polarised_formulas.specs.declared.logic.Logic.{Logic}
 use Rattle.polarised_formulas.specs.declared.logic.Polarity.TheVariants.{Positive}
 use Rattle.formula_grammar.specs.declared.connective.Joiner.TheVariants.{And}
