@@ -2,7 +2,8 @@ use Rattle.std.proofs.lemmas.Grind.{common_steps}
 use Rattle.std.proofs.Common.{◌≡◌, arith, map, ◌++◌, ◌∷◌, [], length, refl, List, ℕ, ◌<◌, ◌^◌}
 use Rattle.std.proofs.lemmas.List.{map-append, length-map}
 use Rattle.fpc_terms.proofs.Interning.{Numbers-insert}
-use Rattle.fpc_terms.proofs.names.Names.add.Goals as goal
+use Rattle.fpc_terms.proofs.Places.{absent-from_is_one_of}
+use Rattle.fpc_terms.proofs.texts.TextTable.add.Goals as goal
 
 pub invariant_of-self-2 : goal.invariant_of-self-2
 invariant_of-self-2 c =
@@ -13,4 +14,4 @@ invariant_of-self-2 c =
     let texts : map (λ text. text.items) c.push.new.self.items ≡ names ++ c.args.text.now ∷ [] = rw (pushed, map-append, kept) refl in
     let place : c.len-place.result ≡ length names = grind (arith, common_steps, length-map c.self.inside.texts.items (λ text. text.items)) in
     let few : length names < 2 ^ 32 = c.self.invariant.few in
-    rw texts (Numbers-insert c.self.inside.numbers c.insert.new.self names c.args.text.now c.in_ok-key.key.items c.len-place.result c.self.invariant (rw c.self.view_is c.requires.absent) c.requires.is_name (omega arith) key place c.in_ok-insert.ensures.updates)
+    rw texts (Numbers-insert c.self.inside.numbers c.insert.new.self names c.args.text.now c.in_ok-key.key.items c.len-place.result c.self.invariant (absent-from_is_one_of _ _ (rw c.self.view_is c.requires)) (omega arith) key place c.in_ok-insert.ensures.updates)
