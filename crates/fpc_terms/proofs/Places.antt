@@ -1,11 +1,11 @@
 -- Where texts stand in a list.
-use Rattle.std.proofs.Common.{◌≡◌, ℕ, ◌+◌, Bool, true, false, if◌then◌else◌, Option, Some, None, List, [], ◌∷◌, ◌++◌, ◌⊎◌, length, refl, sym, ap, ◌∙◌, subst, inl, inr, arith, zero, suc}
+use Rattle.std.proofs.Common.{◌≡◌, ℕ, true, false, Some, List, [], ◌∷◌, ◌++◌, ◌⊎◌, length, Result, IfOk, OnOk, Ok, Err, refl, sym, ap, ◌∙◌, subst, inl, inr, arith, zero, suc}
 use Rattle.std.specs.List.{slice_get}
 use Rattle.std.specs.Str.{bytes_eq}
 use Rattle.std.specs.Cmp.Lexicographic.{bytes_decides}
 use Rattle.std.proofs.lemmas.Bool.{cases_Bool}
 use Rattle.fpc_base.specs.Tokens.{is_one_of}
-use Rattle.fpc_terms.specs.Name.{IsName, HasName, AreNames, AreDifferent, IsInterned, Grows, index_in, with_text, place_in}
+use Rattle.fpc_terms.specs.Name.{IsName, HasName, AreNames, AreDifferent, IsInterned, Grows, index_in, with_text}
 
 -- a place in a longer list
 pub got_push : {X : Type 0} (xs : List X) (x y : X) (i : ℕ) → slice_get (xs ++ x ∷ []) i ≡ Some y → (slice_get xs i ≡ Some y) ⊎ ((i ≡ length xs) × (y ≡ x))
@@ -32,7 +32,7 @@ is_one_of-got [] k x h = cc
 is_one_of-got (y ∷ ys) zero x h =
     let same : bytes_eq x y ≡ true = (bytes_decides x y).1 cc in
     rw same refl
-is_one_of-got (y ∷ ys) (suc k) x h = grind (is_one_of-got ys k x h)
+is_one_of-got (y ∷ ys) (suc k) x h = grind (arith, is_one_of-got ys k x h)
 
 -- one of the texts stands at its place
 pub got-index_in : (texts : List (List ℕ)) (x : List ℕ) → is_one_of texts x ≡ true → slice_get texts (index_in texts x) ≡ Some x
@@ -40,7 +40,7 @@ got-index_in [] x h = cc
 got-index_in (y ∷ ys) x h =
     elim (cases_Bool (bytes_eq x y)) [
       | inl e ↦ rw e (ap Some (sym ((bytes_decides x y).0 e)))
-      | inr e ↦ let later : is_one_of ys x ≡ true = grind in rw e (got-index_in ys x later)
+      | inr e ↦ let later : is_one_of ys x ≡ true = grind arith in rw e (got-index_in ys x later)
     ]
 
 -- the new text stands at the end
@@ -48,9 +48,13 @@ pub index_in-push : (texts : List (List ℕ)) (x : List ℕ) → is_one_of texts
 index_in-push [] x h = rw (equal_bytes x) refl
 index_in-push (y ∷ ys) x h =
     elim (cases_Bool (bytes_eq x y)) [
-      | inl e ↦ grind
-      | inr e ↦ let later : is_one_of ys x ≡ false = grind in rw e (ap suc (index_in-push ys x later))
+      | inl e ↦ grind arith
+      | inr e ↦ let later : is_one_of ys x ≡ false = grind arith in rw e (ap suc (index_in-push ys x later))
     ]
+
+pub index_in-added : {E : Type 0} (added : Result ℕ E) (old new : List (List ℕ)) (x : List ℕ) → is_one_of old x ≡ false → IfOk added (λ k. k ≡ length old) → OnOk added (new ≡ old ++ x ∷ []) → IfOk added (λ k. k ≡ index_in new x)
+index_in-added (Ok k) old new x absent number grown = number ∙ sym (rw grown (index_in-push old x absent))
+index_in-added (Err e) old new x absent number grown = tt
 
 pub absent-from_is_one_of : (texts : List (List ℕ)) (x : List ℕ) → is_one_of texts x ≡ false → ¬ (HasName texts x)
 absent-from_is_one_of texts x h has = cc (h, is_one_of-got texts has.0 x has.1)
@@ -92,7 +96,7 @@ AreNames-with_text texts x is_name names k text =
     elim (cases_Bool (is_one_of texts x)) [
       | inl e ↦ rw e (names k text)
       | inr e ↦ rw e (λ h. elim (got_push texts x text k h) [
-          | inl before ↦ names k text before
-          | inr last ↦ subst IsName (sym last.1) is_name
-        ])
+        | inl before ↦ names k text before
+        | inr last ↦ subst IsName (sym last.1) is_name
+      ])
     ]

@@ -76,10 +76,8 @@ impl Names {
         ensures known { HasName self.old text.now → IsOk result }
         ensures err { OnErr result (self.new ≡ self.old) }
     {
-        match self.texts.number(text) {
-            Ok(number) => Ok(NameId::new(number)),
-            Err(e) => Err(e),
-        }
+        let number = self.texts.number(text)?;
+        Ok(NameId::new(number))
     }
 }
 

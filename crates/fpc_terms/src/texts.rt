@@ -67,10 +67,7 @@ impl TextTable {
     pub(crate) fn find(&self, text: &[u8]) -> Option<u32>
         ensures { result ≡ place_in self.now text.now }
     {
-        match self.numbers.get(text) {
-            Some(number) => Some(*number),
-            None => None,
-        }
+        self.numbers.get(text).copied()
     }
 
     /// The number of a text, which gets the next one where it has none yet. Time is logarithmic in

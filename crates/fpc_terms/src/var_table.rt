@@ -47,10 +47,8 @@ impl VarTable {
         ensures known { is_one_of self.old name.now ≡ true → IsOk result }
         ensures err { OnErr result (self.new ≡ self.old) }
     {
-        match self.texts.number(name) {
-            Ok(number) => Ok(number as u64),
-            Err(e) => Err(e),
-        }
+        let number = self.texts.number(name)?;
+        Ok(number as u64)
     }
 
     /// The number of a name that is there. It takes no memory; time is logarithmic in the number of
