@@ -1,5 +1,5 @@
 -- A map that numbers texts, and one more text.
-use Rattle.std.proofs.Common.{◌≡◌, ℕ, ◌+◌, ◌<◌, ◌^◌, Bool, true, Option, Some, None, List, [], ◌∷◌, ◌++◌, ◌⊎◌, length, refl, sym, ap, ◌∙◌, subst, inl, inr, arith, length-append}
+use Rattle.std.proofs.Common.{◌≡◌, ℕ, ◌+◌, ◌<◌, ◌^◌, Bool, true, Option, Some, None, List, [], ◌∷◌, ◌++◌, ◌⊎◌, length, map, refl, sym, ap, ◌∙◌, subst, inl, inr, arith, length-append}
 use Rattle.std.specs.List.{slice_get}
 use Rattle.std.specs.BTreeMap.{BTreeMap, UpdatesBy}
 use Rattle.std.specs.Cmp.{eq_by_cmp_equiv}
@@ -9,6 +9,7 @@ use Rattle.std.specs.Str.{bytes_eq}
 use Rattle.std.specs.Map.{lookup, KeepsOthers, IsKeyTest, AreApart}
 use Rattle.std.specs.Global.{Vec}
 use Rattle.std.proofs.lemmas.Bool.{cases_Bool, false_from_ne_true}
+use Rattle.std.proofs.lemmas.List.{map-append}
 use Rattle.std.proofs.lemmas.Map.Text.{is_eq-slice_cmp}
 use Rattle.fpc_base.specs.Tokens.{is_one_of}
 use Rattle.fpc_terms.specs.Name.{HasName, AreDifferent, place_in, number_of, Numbers}
@@ -60,6 +61,10 @@ Numbers-insert m n texts text key place old absent room same at updates =
     let here : number_of n text ≡ Some (length texts) = subst (λ t. number_of n t ≡ Some (length texts)) same (updates.1 ∙ ap Some at) in
     let others : (other : List ℕ) → ¬ (other ≡ text) → number_of n other ≡ number_of m other = λ other differs. number_of-other m n key (Some place) updates other (λ e. differs (e ∙ same)) in
     Numbers-push m n texts text old absent here others room
+
+-- the texts of buffers with one more
+pub texts-push : (before after : List (Vec ℕ)) (kept : Vec ℕ) (text : List ℕ) → after ≡ before ++ kept ∷ [] → kept.items ≡ text → map (λ t. t.items) after ≡ map (λ t. t.items) before ++ text ∷ []
+texts-push before after kept text pushed same = rw (pushed, map-append, same) refl
 
 none_from_absent : (o : Option ℕ) → ((k : ℕ) → o ≡ Some k → ⊥) → o ≡ None
 none_from_absent None absent = refl

@@ -1,5 +1,5 @@
 -- Where texts stand in a list.
-use Rattle.std.proofs.Common.{◌≡◌, ℕ, true, false, Some, List, [], ◌∷◌, ◌++◌, ◌⊎◌, length, Result, IfOk, OnOk, Ok, Err, refl, sym, ap, ◌∙◌, subst, inl, inr, arith, zero, suc}
+use Rattle.std.proofs.Common.{◌≡◌, ℕ, true, false, Some, List, [], ◌∷◌, ◌++◌, ◌⊎◌, length, refl, sym, ap, subst, inl, inr, arith, zero, suc}
 use Rattle.std.specs.List.{slice_get}
 use Rattle.std.specs.Str.{bytes_eq}
 use Rattle.std.specs.Cmp.Lexicographic.{bytes_decides}
@@ -51,10 +51,6 @@ index_in-push (y ∷ ys) x h =
       | inl e ↦ grind arith
       | inr e ↦ let later : is_one_of ys x ≡ false = grind arith in rw e (ap suc (index_in-push ys x later))
     ]
-
-pub index_in-added : {E : Type 0} (added : Result ℕ E) (old new : List (List ℕ)) (x : List ℕ) → is_one_of old x ≡ false → IfOk added (λ k. k ≡ length old) → OnOk added (new ≡ old ++ x ∷ []) → IfOk added (λ k. k ≡ index_in new x)
-index_in-added (Ok k) old new x absent number grown = number ∙ sym (rw grown (index_in-push old x absent))
-index_in-added (Err e) old new x absent number grown = tt
 
 pub absent-from_is_one_of : (texts : List (List ℕ)) (x : List ℕ) → is_one_of texts x ≡ false → ¬ (HasName texts x)
 absent-from_is_one_of texts x h has = cc (h, is_one_of-got texts has.0 x has.1)

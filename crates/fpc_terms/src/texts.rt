@@ -86,7 +86,7 @@ impl TextTable {
 
     fn add(&mut self, text: &[u8]) -> Result<u32, OutOfMemory>
         requires { is_one_of self.old text.now ≡ false }
-        ensures number { IfOk result (λ k. k ≡ length self.old) }
+        ensures number { IfOk result (λ k. k ≡ index_in self.new text.now) }
         ensures texts { OnOk result (self.new ≡ self.old ++ text.now ∷ []) }
         ensures err { OnErr result (self.new ≡ self.old) }
     {
