@@ -1,3 +1,4 @@
+pub mod Places
 pub mod Interning
 pub mod TermFacts
 pub mod ScopeFacts

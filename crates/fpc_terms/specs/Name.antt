@@ -1,10 +1,12 @@
 -- Names as texts, and tables of them.
-use Rattle.std.specs.Prelude.{◌≡◌, ℕ, ◌<◌, ◌^◌, Bool, ◌&&◌, ◌||◌, nat_eq, nat_le, IsTrue, List, [], ◌∷◌, ◌++◌, length, slice_get, Option, Some, ◌⊎◌, ◌↔◌}
+use Rattle.std.specs.Prelude.{◌≡◌, ℕ, suc, zero, ◌<◌, ◌^◌, Bool, if◌then◌else◌, ◌&&◌, ◌||◌, nat_eq, nat_le, IsTrue, List, [], ◌∷◌, ◌++◌, length, slice_get, Option, Some, None, ◌⊎◌, ◌↔◌}
 use Rattle.std.specs.List.{list_all}
+use Rattle.std.specs.Str.{bytes_eq}
 use Rattle.std.specs.BTreeMap.{BTreeMap, get_by}
 use Rattle.std.specs.Cmp.Lexicographic.{slice_cmp}
 use Rattle.std.specs.Ordering.{nat_cmp}
 use Rattle.std.specs.Global.{Vec}
+use Rattle.fpc_base.specs.Tokens.{is_one_of}
 
 -- the byte lies from the first to the last
 abbrev pub is_from_to : ℕ → ℕ → ℕ → Bool
@@ -27,6 +29,10 @@ IsName (b ∷ bs) = IsTrue (is_small_letter b) × IsTrue (list_all is_name_byte 
 abbrev pub HasName : List (List ℕ) → List ℕ → Type 0
 HasName names text = (k : ℕ) × (slice_get names k ≡ Some text)
 
+-- each of the texts is a name
+abbrev pub AreNames : List (List ℕ) → Type 0
+AreNames texts = (k : ℕ) (text : List ℕ) → slice_get texts k ≡ Some text → IsName text
+
 -- no text stands at two places
 abbrev pub AreDifferent : List (List ℕ) → Type 0
 AreDifferent names = (i j : ℕ) (text : List ℕ) → slice_get names i ≡ Some text → slice_get names j ≡ Some text → i ≡ j
@@ -43,13 +49,25 @@ Agrees number names = (k : ℕ) (text : List ℕ) → slice_get names k ≡ Some
 abbrev pub Grows : List (List ℕ) → List (List ℕ) → Type 0
 Grows old new = (k : ℕ) (text : List ℕ) → slice_get old k ≡ Some text → slice_get new k ≡ Some text
 
+-- where a text first stands in a list
+abbrev pub index_in : List (List ℕ) → List ℕ → ℕ
+index_in [] x = zero
+index_in (y ∷ ys) x = if bytes_eq x y then zero else suc (index_in ys x)
+
+-- the texts with one more at the end, where it was not among them
+abbrev pub with_text : List (List ℕ) → List ℕ → List (List ℕ)
+with_text texts x = if is_one_of texts x then texts else texts ++ x ∷ []
+
+-- the place of a text, where it stands in the list
+abbrev pub place_in : List (List ℕ) → List ℕ → Option ℕ
+place_in texts x = if is_one_of texts x then Some (index_in texts x) else None
+
 -- the number that the map has for a text
 abbrev pub number_of : BTreeMap (Vec ℕ) ℕ → List ℕ → Option ℕ
 number_of numbers text = get_by (λ k. slice_cmp nat_cmp text k.items) numbers
 
--- what ties a map to the names that it numbers
-pub record Numbers (numbers : BTreeMap (Vec ℕ) ℕ) (names : List (List ℕ)) : Type 0 where
-  -- the map has for each name its place, and nothing else
-  pub places : (place : ℕ) (text : List ℕ) → (number_of numbers text ≡ Some place) ↔ (slice_get names place ≡ Some text)
-  pub each : (place : ℕ) (text : List ℕ) → slice_get names place ≡ Some text → IsName text
-  pub few : length names < 2 ^ 32
+-- what ties a map to the texts that it numbers
+pub record Numbers (numbers : BTreeMap (Vec ℕ) ℕ) (texts : List (List ℕ)) : Type 0 where
+  -- the map has for each text its place, and nothing else
+  pub places : (place : ℕ) (text : List ℕ) → (number_of numbers text ≡ Some place) ↔ (slice_get texts place ≡ Some text)
+  pub few : length texts < 2 ^ 32

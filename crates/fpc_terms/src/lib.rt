@@ -9,9 +9,12 @@ pub mod names;
 pub mod reader;
 pub mod scope;
 pub mod term;
+mod texts;
+pub mod var_table;
 
 pub use cell::Cell;
 pub use list::Terms;
 pub use name::{NameId, is_name};
 pub use names::Names;
 pub use term::TermBuf;
+pub use var_table::VarTable;

@@ -1,32 +1,28 @@
 //! The names in use, each with its number.
-ghost use Rattle.std.specs.Prelude.{◌≡◌, ◌<◌, ◌^◌, ◌++◌, ◌∷◌, [], IfOk, IsOk, MatchOption, OnOk, OnErr, Some, length, slice_get, IsTrue, ◌↔◌};
-ghost use Rattle.fpc_terms.specs.Name.{IsName, HasName, AreDifferent, IsInterned};
+ghost use Rattle.std.specs.Prelude.{◌≡◌, ◌<◌, ◌^◌, [], IfOk, IsOk, OnOk, OnErr, Some, length, slice_get, IsTrue, ◌↔◌};
+ghost use Rattle.fpc_terms.specs.Name.{IsName, HasName, AreDifferent, IsInterned, Grows};
 
 use crate::name::NameId;
+use crate::texts::TextTable;
 use fpc_base::outside::OutOfMemory;
 use std::alloc::Global;
-use std::collections::BTreeMap;
 use std::marker::Model;
-
-/// How many names a table may hold.
-const MOST: usize = 0xffff_ffff;
 
 /// The names in use. Each has a number, and different numbers have different texts.
 #[derive(Drop)]
 pub struct Names {
-    texts: Vec<Vec<u8>>,
-    numbers: BTreeMap<Vec<u8>, u32>,
+    texts: TextTable,
 }
 
 impl Model for Names {
-    ghost use Rattle.std.specs.Prelude.{ℕ, List, map};
-    ghost use Rattle.fpc_terms.specs.Name.{Numbers};
+    ghost use Rattle.std.specs.Prelude.{ℕ, List};
+    ghost use Rattle.fpc_terms.specs.Name.{AreNames};
 
     ghost Value = { List (List ℕ) };
 
-    ghost view = { λ n. map (λ text. text.items) n.texts.items };
+    ghost view = { λ n. n.texts };
 
-    ghost invariant = { λ n. Numbers n.numbers (map (λ text. text.items) n.texts.items) };
+    ghost invariant = { λ n. AreNames n.texts };
 }
 
 impl Names {
@@ -35,8 +31,7 @@ impl Names {
         ensures { result ≡ [] }
     {
         Names {
-            texts: Vec::new(alloc),
-            numbers: BTreeMap::new(alloc),
+            texts: TextTable::new(alloc),
         }
     }
 
@@ -52,7 +47,7 @@ impl Names {
     pub fn is_empty(&self) -> bool
         ensures { IsTrue result ↔ (self.now ≡ []) }
     {
-        self.texts.is_empty()
+        self.texts.len() == 0
     }
 
     /// The text of a name of this table.
@@ -61,14 +56,14 @@ impl Names {
         ensures text { slice_get self.now name ≡ Some result.now }
         ensures is_name { IsName result.now }
     {
-        self.texts[name.index()].as_slice()
+        self.texts.text(name.index())
     }
 
     /// Different ids have different texts.
     pub fn distinct(&self)
         ensures { AreDifferent self.now }
     {
-        let _ = &self.texts;
+        self.texts.distinct();
     }
 
     /// The id of a text, which gets one where it has none yet. Time is logarithmic in the number
@@ -77,42 +72,12 @@ impl Names {
         requires { IsName text.now }
         ensures id { IfOk result (λ id. slice_get self.new id ≡ Some text.now) }
         ensures names { OnOk result (IsInterned self.old text.now self.new) }
+        ensures grows { Grows self.old self.new }
         ensures known { HasName self.old text.now → IsOk result }
         ensures err { OnErr result (self.new ≡ self.old) }
     {
-        match self.find(text) {
-            Some(id) => Ok(id),
-            None => self.add(text),
-        }
-    }
-
-    fn find(&self, text: &[u8]) -> Option<NameId>
-        ensures { MatchOption result (¬ (HasName self.now text.now)) (λ id. slice_get self.now id ≡ Some text.now) }
-    {
-        match self.numbers.get(text) {
-            Some(number) => Some(NameId::new(*number)),
-            None => None,
-        }
-    }
-
-    fn add(&mut self, text: &[u8]) -> Result<NameId, OutOfMemory>
-        requires is_name { IsName text.now }
-        requires absent { ¬ (HasName self.old text.now) }
-        ensures id { IfOk result (λ id. id ≡ length self.old) }
-        ensures names { OnOk result (self.new ≡ self.old ++ text.now ∷ []) }
-        ensures err { OnErr result (self.new ≡ self.old) }
-    {
-        let alloc = *self.texts.allocator();
-        let place = self.texts.len();
-        if place == MOST {
-            return Err(OutOfMemory);
-        }
-        let key = text.to_vec(alloc)?;
-        let kept = text.to_vec(alloc)?;
-        self.texts.reserve(1)?;
-        self.numbers.insert(key, place as u32)?;
-        self.texts.push(kept)?;
-        Ok(NameId::new(place as u32))
+        let number = self.texts.number(text)?;
+        Ok(NameId::new(number))
     }
 }
 
