@@ -1,3 +1,4 @@
 pub mod Interning
 pub mod TermFacts
 pub mod ScopeFacts
+pub mod PrintFacts

@@ -5,6 +5,7 @@ pub mod cell;
 pub mod list;
 pub mod name;
 pub mod names;
+pub mod print;
 pub mod scope;
 pub mod term;
 
@@ -12,4 +13,5 @@ pub use cell::Cell;
 pub use list::Terms;
 pub use name::{NameId, is_name};
 pub use names::Names;
+pub use print::print_term;
 pub use term::TermBuf;
