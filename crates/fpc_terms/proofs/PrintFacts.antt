@@ -1,10 +1,10 @@
 -- Cell by cell the text of a term comes about.
-use Rattle.std.proofs.Common.{◌≡◌, ℕ, ◌<◌, ◌-◌, List, [], ◌∷◌, ◌++◌, refl, ap, arith}
-use Rattle.std.specs.Prelude.{zero, suc}
+use Rattle.std.proofs.Common.{◌≡◌, ℕ, ◌<◌, ◌-◌, List, [], ◌∷◌, ◌++◌, length, take, refl, ap, sym, arith, append-nil}
+use Rattle.std.specs.Prelude.{Bool, true, false, if◌then◌else◌, zero, suc}
 use Rattle.fpc_terms.specs.declared.cell.Cell.{Cell}
 use Rattle.fpc_terms.specs.Term.{Term, Args, eigen, bound, variable, app, no_args, arg, count, cells_before, all_before, cells_of}
 use Rattle.fpc_terms.specs.Text.{Leaves, term_before, more_before}
-use Rattle.fpc_terms.specs.Printing.{HasNamesBelow, HaveNamesBelow, AreNamedBelow, end_text, end_counts, behind_text, behind_counts, cells_text}
+use Rattle.fpc_terms.specs.Printing.{StartsWith, HasNamesBelow, HaveNamesBelow, AreNamedBelow, end_text, end_counts, behind_text, behind_counts, cells_text}
 
 mutual
   cells_text-cells_before : (leaves : Leaves) (t : Term) (s : List ℕ) (cs : List Cell) →
@@ -48,4 +48,26 @@ pub behind_counts-some : (n : ℕ) (s : List ℕ) → 0 < n → behind_counts n 
 behind_counts-some zero s h = let no : ⊥ = omega arith in absurd no
 behind_counts-some (suc n) s h = ap (λ k. k ∷ s) (omega arith)
 
-pub ruleset print_facts = (cells_text-cells_of, AreNamedBelow-cells_of, behind_text-some, behind_counts-some)
+starts-taken : (a b : List ℕ) → take (length a) (a ++ b) ≡ a
+starts-taken [] b = refl
+starts-taken (x ∷ a) b = ap (λ l. x ∷ l) (starts-taken a b)
+
+taken-more : (a b c : List ℕ) → take (length a) b ≡ a → take (length b) c ≡ b → take (length a) c ≡ a
+taken-more [] b c h k = refl
+taken-more (x ∷ a) [] c h k = cc
+taken-more (x ∷ a) (y ∷ b) [] h k = cc
+taken-more (x ∷ a) (y ∷ b) (z ∷ c) h k = let heads : z ≡ x = cc in let tails : take (length a) c ≡ a = taken-more a b c (cc) (cc) in rw (heads, tails)
+
+pub StartsWith-same : (a : List ℕ) → StartsWith a a
+StartsWith-same a = record { taken = rw (append-nil a) at (starts-taken a []) }
+
+pub StartsWith-more : (a b c : List ℕ) → StartsWith a b → StartsWith b c → StartsWith a c
+StartsWith-more a b c h k = record { taken = taken-more a b c h.taken k.taken }
+
+pub StartsWith-written : (written : Bool) (a b c : List ℕ) → c ≡ (if written then a ++ b else a) → StartsWith a c
+StartsWith-written true a b c e = record { taken = rw e (starts-taken a b) }
+StartsWith-written false a b c e = rw e (StartsWith-same a)
+
+pub ruleset front_facts = (StartsWith-same, StartsWith-more, StartsWith-written)
+
+pub ruleset print_facts = (front_facts, cells_text-cells_of, AreNamedBelow-cells_of, behind_text-some, behind_counts-some)

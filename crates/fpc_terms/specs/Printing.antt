@@ -1,11 +1,15 @@
 -- How the text of a term comes about cell by cell, and which names a term has.
 -- A list of numbers stands for the open parentheses, the innermost first: the number counts the arguments behind the one at hand.
-use Rattle.std.specs.Prelude.{ℕ, zero, suc, ◌<◌, List, [], ◌∷◌, ◌++◌}
+use Rattle.std.specs.Prelude.{◌≡◌, ℕ, zero, suc, ◌<◌, List, [], ◌∷◌, ◌++◌, length, take}
 use Rattle.std.specs.Fmt.{decimal}
 use Rattle.fpc_terms.specs.declared.cell.Cell.{Cell}
 use Rattle.fpc_terms.specs.declared.cell.Cell.TheVariants.{Eigen, Bound, Var, App}
 use Rattle.fpc_terms.specs.Term.{Term, Args, eigen, bound, variable, app, no_args, arg}
 use Rattle.fpc_terms.specs.Text.{Leaves}
+
+-- some bytes, and maybe more behind them
+pub record StartsWith (front whole : List ℕ) : Type 0 where
+  pub taken : take (length front) whole ≡ front
 
 abbrev mutual
   -- each name of the term has a number below n

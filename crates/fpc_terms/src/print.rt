@@ -2,7 +2,7 @@
 ghost use Rattle.std.specs.Prelude.{◌≡◌, ℕ, ◌<◌, ◌++◌, ◌∷◌, [], OnOk, OnErr, IfOk, MatchOption, length};
 ghost use Rattle.std.specs.Fmt.{decimal};
 ghost use Rattle.fpc_terms.specs.Text.{term_text, name_in, plain_leaves};
-ghost use Rattle.fpc_terms.specs.Printing.{HasNamesBelow, IsNamedBelow, AreNamedBelow, head_text, arguments_of, end_text, end_counts, behind_text, behind_counts, cells_text};
+ghost use Rattle.fpc_terms.specs.Printing.{HasNamesBelow, StartsWith, IsNamedBelow, AreNamedBelow, head_text, arguments_of, end_text, end_counts, behind_text, behind_counts, cells_text};
 
 use crate::cell::Cell;
 use crate::name::NameId;
@@ -13,6 +13,7 @@ use std::alloc::Global;
 use std::marker::Model;
 
 /// Puts the text of a term behind other bytes. On a refusal `out` is as before. Time and memory are linear in the text's size.
+#[tactic(auto, using(crate::proofs::PrintFacts::print_facts))]
 pub fn print_term(
     alloc: Global,
     names: &Names,
@@ -23,19 +24,24 @@ pub fn print_term(
     ensures ok { OnOk result (out.new.items ≡ out.old.items ++ term_text names.now term.now) }
     ensures err { OnErr result (out.new.items ≡ out.old.items) }
 {
-    let text = text_of(alloc, names, term)?;
-    out.extend_from_slice(text.as_slice())?;
-    Ok(())
+    let start = out.len();
+    let printed = push_cells(alloc, names, term.cells(), out);
+    if printed.is_err() {
+        out.truncate(start);
+    }
+    printed
 }
 
 /// Puts a mark with a number behind other bytes.
+#[tactic(auto, using(crate::proofs::PrintFacts::print_facts))]
 pub fn push_number(
     alloc: Global,
     mark: u8,
     number: u64,
     out: &mut Vec<u8>,
 ) -> Result<(), OutOfMemory>
-    ensures { OnOk result (out.new.items ≡ out.old.items ++ mark ∷ decimal number) }
+    ensures ok { OnOk result (out.new.items ≡ out.old.items ++ mark ∷ decimal number) }
+    ensures front { StartsWith out.old.items out.new.items }
 {
     let digits = format!(in alloc; "{number}")?;
     out.push(mark)?;
@@ -44,53 +50,53 @@ pub fn push_number(
 }
 
 /// Puts a name behind other bytes.
+#[tactic(auto, using(crate::proofs::PrintFacts::print_facts))]
 pub fn push_name(names: &Names, name: NameId, out: &mut Vec<u8>) -> Result<(), OutOfMemory>
     requires { name < length names.now }
-    ensures { OnOk result (out.new.items ≡ out.old.items ++ name_in names.now name) }
+    ensures ok { OnOk result (out.new.items ≡ out.old.items ++ name_in names.now name) }
+    ensures front { StartsWith out.old.items out.new.items }
 {
     out.extend_from_slice(names.text(name))?;
     Ok(())
 }
 
-/// The text of a term.
+/// Puts the text of a term with these cells behind other bytes.
 #[tactic(auto, using(crate::proofs::PrintFacts::print_facts))]
-fn text_of(alloc: Global, names: &Names, term: &TermBuf) -> Result<Vec<u8>, OutOfMemory>
-    requires { HasNamesBelow (length names.now) term.now }
-    ensures { IfOk result (λ text. text.items ≡ term_text names.now term.now) }
-{
-    cells_text(alloc, names, term.cells())
-}
-
-/// The text of the cells of a term.
-#[tactic(auto, using(crate::proofs::PrintFacts::print_facts))]
-fn cells_text(alloc: Global, names: &Names, cells: &[Cell]) -> Result<Vec<u8>, OutOfMemory>
+fn push_cells(
+    alloc: Global,
+    names: &Names,
+    cells: &[Cell],
+    out: &mut Vec<u8>,
+) -> Result<(), OutOfMemory>
     requires { AreNamedBelow (length names.now) cells.now }
-    ensures { IfOk result (λ text. text.items ≡ cells_text (plain_leaves (name_in names.now)) [] cells.now) }
+    ensures ok { OnOk result (out.new.items ≡ out.old.items ++ cells_text (plain_leaves (name_in names.now)) [] cells.now) }
+    ensures front { StartsWith out.old.items out.new.items }
 {
-    let mut text = Vec::new(alloc);
     let mut counts = Counts::new(alloc);
     for cell in cells {
-        push_head(alloc, names, *cell, &mut text)?;
-        push_behind(arguments(*cell), &mut text, &mut counts)?;
+        push_head(alloc, names, *cell, out)?;
+        push_behind(arguments(*cell), out, &mut counts)?;
     }
-    Ok(text)
+    Ok(())
 }
 
 /// Puts a leaf, or a name without its arguments, behind other bytes.
+#[tactic(auto, using(crate::proofs::PrintFacts::print_facts))]
 fn push_head(
     alloc: Global,
     names: &Names,
     cell: Cell,
-    text: &mut Vec<u8>,
+    out: &mut Vec<u8>,
 ) -> Result<(), OutOfMemory>
     requires { IsNamedBelow (length names.now) cell }
-    ensures { OnOk result (text.new.items ≡ text.old.items ++ head_text (plain_leaves (name_in names.now)) cell) }
+    ensures ok { OnOk result (out.new.items ≡ out.old.items ++ head_text (plain_leaves (name_in names.now)) cell) }
+    ensures front { StartsWith out.old.items out.new.items }
 {
     match cell {
-        Cell::Eigen(n) => push_number(alloc, b'$', n, text),
-        Cell::Bound(k) => push_number(alloc, b'#', k as u64, text),
-        Cell::Var(v) => push_number(alloc, b'V', v, text),
-        Cell::App(name, _) => push_name(names, name, text),
+        Cell::Eigen(n) => push_number(alloc, b'$', n, out),
+        Cell::Bound(k) => push_number(alloc, b'#', k as u64, out),
+        Cell::Var(v) => push_number(alloc, b'V', v, out),
+        Cell::App(name, _) => push_name(names, name, out),
     }
 }
 
@@ -106,28 +112,31 @@ fn arguments(cell: Cell) -> u8
 
 /// Puts what stands behind a cell with so many arguments behind other bytes.
 #[tactic(auto, using(crate::proofs::PrintFacts::print_facts))]
-fn push_behind(arguments: u8, text: &mut Vec<u8>, counts: &mut Counts) -> Result<(), OutOfMemory>
-    ensures text { OnOk result (text.new.items ≡ text.old.items ++ behind_text arguments counts.old) }
+fn push_behind(arguments: u8, out: &mut Vec<u8>, counts: &mut Counts) -> Result<(), OutOfMemory>
+    ensures ok { OnOk result (out.new.items ≡ out.old.items ++ behind_text arguments counts.old) }
+    ensures front { StartsWith out.old.items out.new.items }
     ensures counts { OnOk result (counts.new ≡ behind_counts arguments counts.old) }
 {
     if arguments == 0 {
-        return push_end(text, counts);
+        return push_end(out, counts);
     }
-    text.push(b'(')?;
+    out.push(b'(')?;
     counts.push(arguments - 1)
 }
 
 /// Puts what stands behind a term behind other bytes.
-fn push_end(text: &mut Vec<u8>, counts: &mut Counts) -> Result<(), OutOfMemory>
-    ensures text { OnOk result (text.new.items ≡ text.old.items ++ end_text counts.old) }
+#[tactic(auto, using(crate::proofs::PrintFacts::print_facts))]
+fn push_end(out: &mut Vec<u8>, counts: &mut Counts) -> Result<(), OutOfMemory>
+    ensures ok { OnOk result (out.new.items ≡ out.old.items ++ end_text counts.old) }
+    ensures front { StartsWith out.old.items out.new.items }
     ensures counts { OnOk result (counts.new ≡ end_counts counts.old) }
 {
     while let Some(count) = counts.pop() {
         if count > 0 {
-            text.push(b',')?;
+            out.push(b',')?;
             return counts.push(count - 1);
         }
-        text.push(b')')?;
+        out.push(b')')?;
     }
     Ok(())
 }
