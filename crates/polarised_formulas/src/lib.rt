@@ -8,6 +8,7 @@ pub mod logic;
 pub mod node;
 pub mod opening;
 pub mod parts;
+pub mod print;
 pub mod problem;
 pub mod scope;
 pub mod shape;

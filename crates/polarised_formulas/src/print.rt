@@ -1,0 +1,4 @@
+//! Formulas and problems as texts.
+mod progress;
+mod waiting;
+mod words;
