@@ -1,9 +1,9 @@
 -- Node by node the text of a formula comes about.
-use Rattle.std.proofs.Common.{◌≡◌, ℕ, ◌<◌, ◌≤◌, ◌+◌, ◌-◌, List, [], ◌∷◌, ◌++◌, length, refl, ap, arith, append_assoc}
+use Rattle.std.proofs.Common.{◌≡◌, ℕ, ◌<◌, ◌≤◌, ◌+◌, ◌-◌, List, [], ◌∷◌, ◌++◌, length, refl, ap, arith, append_assoc, ◌∙◌}
 use Rattle.std.specs.Prelude.{zero, suc, codes}
 use Rattle.fpc_terms.specs.declared.cell.Cell.{Cell}
 use Rattle.fpc_terms.specs.Term.{Term, Args, eigen, bound, variable, app, no_args, arg, count, cells_before, all_before}
-use Rattle.fpc_terms.specs.Text.{Leaves, term_before, args_before, more_before}
+use Rattle.fpc_terms.specs.Text.{Leaves, name_in, term_before, args_before, more_before}
 use Rattle.fpc_terms.specs.Printing.{HaveNamesBelow, AreNamedBelow}
 use Rattle.fpc_terms.proofs.PrintFacts.{AreNamedBelow-all_before, front_facts}
 use Rattle.polarised_formulas.specs.declared.logic.Logic.{Logic}
@@ -12,7 +12,7 @@ use Rattle.polarised_formulas.specs.declared.print.waiting.Operator.TheVariants.
 use Rattle.polarised_formulas.specs.declared.print.waiting.Waiting.{Waiting}
 use Rattle.polarised_formulas.specs.declared.print.waiting.Waiting.TheVariants.{Arguments, Second, Close}
 use Rattle.polarised_formulas.specs.Formula.{Formula, truth, falsity, atom, conj, disj, implies, for_all, exists, nodes_before, nodes_of, inside_before}
-use Rattle.polarised_formulas.specs.Text.{Style, conj_text, disj_text, operator_before, formula_before}
+use Rattle.polarised_formulas.specs.Text.{Style, conj_text, disj_text, operator_before, formula_before, named_style, logic_text, problem_text}
 use Rattle.polarised_formulas.specs.Printing.{AllNamesBelow, AreNodesNamedBelow, end_text, end_waiting, end_depth, name_end_text, name_end_waiting, name_end_depth, nodes_text}
 use Rattle.polarised_formulas.proofs.PartFacts.{node_count, length-nodes_before}
 use Rattle.polarised_formulas.proofs.OpenedFacts.{last_depth, deeper-low}
@@ -84,6 +84,14 @@ formula_before-append style logic (implies a b) d xs ys =
     rw (formula_before-append style logic a d (operator_before (codes "=>") (formula_before style logic d b (41 ∷ xs))) ys, formula_before-append style logic b d (41 ∷ xs) ys)
 formula_before-append style logic (for_all a) d xs ys = rw (append_assoc (style.binder d) (formula_before style logic (suc d) a xs) ys, formula_before-append style logic a (suc d) xs ys)
 formula_before-append style logic (exists a) d xs ys = rw (append_assoc (style.binder d) (formula_before style logic (suc d) a xs) ys, formula_before-append style logic a (suc d) xs ys)
+
+-- the parts of a problem's text in the order in which they are written
+pub problem_text-written : (names : List (List ℕ)) (logic : Logic) (f : Formula) →
+    ((logic_text logic ++ 32 ∷ []) ++ formula_before (named_style (name_in names)) logic 0 f []) ++ 46 ∷ 10 ∷ [] ≡ problem_text names logic f
+problem_text-written names logic f =
+    append_assoc (logic_text logic ++ 32 ∷ []) (formula_before (named_style (name_in names)) logic 0 f []) (46 ∷ 10 ∷ [])
+      ∙ ap (λ bytes. (logic_text logic ++ 32 ∷ []) ++ bytes) (formula_before-append (named_style (name_in names)) logic f 0 [] (46 ∷ 10 ∷ []))
+      ∙ append_assoc (logic_text logic) (32 ∷ []) (formula_before (named_style (name_in names)) logic 0 f (46 ∷ 10 ∷ []))
 
 AreNodesNamedBelow-inside_before : (n : ℕ) (cs : List Cell) (ns : List Node) → AreNamedBelow n cs → AreNodesNamedBelow n ns → AreNodesNamedBelow n (inside_before cs ns)
 AreNodesNamedBelow-inside_before n [] ns h hs = hs
