@@ -4,6 +4,9 @@ ghost use Rattle.std.specs.Fmt.{decimal};
 ghost use Rattle.fpc_terms.specs.Text.{term_text, name_in, plain_leaves};
 ghost use Rattle.fpc_terms.specs.Printing.{HasNamesBelow, StartsWith, IsNamedBelow, AreNamedBelow, head_text, arguments_of, end_text, end_counts, behind_text, behind_counts, cells_text};
 
+#[cfg(test)]
+mod tests;
+
 use crate::cell::Cell;
 use crate::name::NameId;
 use crate::names::Names;
@@ -82,12 +85,7 @@ fn push_cells(
 
 /// Puts a leaf, or a name without its arguments, behind other bytes.
 #[tactic(auto, using(crate::proofs::PrintFacts::print_facts))]
-fn push_head(
-    alloc: Global,
-    names: &Names,
-    cell: Cell,
-    out: &mut Vec<u8>,
-) -> Result<(), OutOfMemory>
+fn push_head(alloc: Global, names: &Names, cell: Cell, out: &mut Vec<u8>) -> Result<(), OutOfMemory>
     requires { IsNamedBelow (length names.now) cell }
     ensures ok { OnOk result (out.new.items ≡ out.old.items ++ head_text (plain_leaves (name_in names.now)) cell) }
     ensures front { StartsWith out.old.items out.new.items }

@@ -33,7 +33,7 @@ module _ (style : Style) (logic : Logic) where
     -- the arguments behind one
     nodes_text-all_before : (ts : Args) (d : ℕ) (s : List Waiting) (cs : List Cell) (ns : List Node) →
         end_text logic (Arguments (count ts) ∷ s) ++ nodes_text style logic (end_depth d (Arguments (count ts) ∷ s)) (end_waiting (Arguments (count ts) ∷ s)) (inside_before (all_before ts cs) ns)
-          ≡ more_before (style.leaves d) ts (end_text logic s ++ nodes_text style logic (end_depth d s) (end_waiting s) (inside_before cs ns))
+        ≡ more_before (style.leaves d) ts (end_text logic s ++ nodes_text style logic (end_depth d s) (end_waiting s) (inside_before cs ns))
     nodes_text-all_before no_args d s cs ns = refl
     nodes_text-all_before (arg t ts) d s cs ns = rw (nodes_text-cells_before t d (Arguments (count ts) ∷ s) (all_before ts cs) ns, nodes_text-all_before ts d s cs ns)
 
@@ -90,8 +90,8 @@ pub problem_text-written : (names : List (List ℕ)) (logic : Logic) (f : Formul
     ((logic_text logic ++ 32 ∷ []) ++ formula_before (named_style (name_in names)) logic 0 f []) ++ 46 ∷ 10 ∷ [] ≡ problem_text names logic f
 problem_text-written names logic f =
     append_assoc (logic_text logic ++ 32 ∷ []) (formula_before (named_style (name_in names)) logic 0 f []) (46 ∷ 10 ∷ [])
-      ∙ ap (λ bytes. (logic_text logic ++ 32 ∷ []) ++ bytes) (formula_before-append (named_style (name_in names)) logic f 0 [] (46 ∷ 10 ∷ []))
-      ∙ append_assoc (logic_text logic) (32 ∷ []) (formula_before (named_style (name_in names)) logic 0 f (46 ∷ 10 ∷ []))
+    ∙ ap (λ bytes. (logic_text logic ++ 32 ∷ []) ++ bytes) (formula_before-append (named_style (name_in names)) logic f 0 [] (46 ∷ 10 ∷ []))
+    ∙ append_assoc (logic_text logic) (32 ∷ []) (formula_before (named_style (name_in names)) logic 0 f (46 ∷ 10 ∷ []))
 
 AreNodesNamedBelow-inside_before : (n : ℕ) (cs : List Cell) (ns : List Node) → AreNamedBelow n cs → AreNodesNamedBelow n ns → AreNodesNamedBelow n (inside_before cs ns)
 AreNodesNamedBelow-inside_before n [] ns h hs = hs

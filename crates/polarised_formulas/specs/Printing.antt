@@ -2,11 +2,12 @@
 -- What waits behind the part that is being written stands in a list, the innermost first.
 use Rattle.std.specs.Prelude.{ℕ, zero, suc, ◌<◌, List, [], ◌∷◌, ◌++◌, codes}
 use Rattle.fpc_terms.specs.Printing.{HaveNamesBelow, IsNamedBelow, head_text, arguments_of}
+use Rattle.fpc_terms.specs.Text.{name_in}
 use Rattle.polarised_formulas.specs.declared.logic.Logic.{Logic}
 use Rattle.polarised_formulas.specs.declared.node.Node.{Node}
 use Rattle.polarised_formulas.specs.declared.node.Node.TheVariants.{True, False, Atom, And, Or, Implies, ForAll, Exists, Inside}
-use Rattle.polarised_formulas.specs.declared.print.waiting.Form.{Form}
-use Rattle.polarised_formulas.specs.declared.print.waiting.Form.TheVariants.{Plain, Named}
+use Rattle.polarised_formulas.specs.declared.print.writer.Form.{Form}
+use Rattle.polarised_formulas.specs.declared.print.writer.Form.TheVariants.{Plain, Named}
 use Rattle.polarised_formulas.specs.declared.print.waiting.Operator.{Operator}
 use Rattle.polarised_formulas.specs.declared.print.waiting.Operator.TheVariants.{Conjunction, Disjunction, Implication}
 use Rattle.polarised_formulas.specs.declared.print.waiting.Waiting.{Waiting}
@@ -36,10 +37,10 @@ abbrev pub AreNodesNamedBelow : ℕ → List Node → Type 0
 AreNodesNamedBelow n [] = Unit {0}
 AreNodesNamedBelow n (m ∷ ms) = IsNodeNamedBelow n m × AreNodesNamedBelow n ms
 
--- the style of a form
-abbrev pub form_style : Form → (ℕ → List ℕ) → Style
-form_style Plain name = plain_style name
-form_style Named name = named_style name
+-- the style of a form, with the names of a table
+abbrev pub form_style : Form → List (List ℕ) → Style
+form_style Plain names = plain_style (name_in names)
+form_style Named names = named_style (name_in names)
 
 abbrev pub operator_text : Logic → Operator → List ℕ
 operator_text logic (Conjunction p) = conj_text p

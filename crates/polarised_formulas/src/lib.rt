@@ -18,5 +18,6 @@ pub use formula::Formula;
 pub use list::Formulas;
 pub use logic::{Logic, Polarity, Side};
 pub use node::Node;
+pub use print::{print_formula, print_problem};
 pub use problem::{Problem, read_problem};
 pub use step::Step;

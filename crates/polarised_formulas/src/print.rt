@@ -1,18 +1,17 @@
 //! Formulas and problems as texts.
+ghost use Rattle.std.specs.Prelude.{◌≡◌, ◌++◌, OnOk, OnErr, IfOk, length};
+ghost use Rattle.polarised_formulas.specs.Text.{plain_text, problem_text};
+ghost use Rattle.polarised_formulas.specs.Printing.{AllNamesBelow};
+
 mod progress;
 mod waiting;
 mod words;
 mod writer;
 
-ghost use Rattle.std.specs.Prelude.{◌≡◌, ◌++◌, OnOk, OnErr, IfOk, length};
-ghost use Rattle.polarised_formulas.specs.Text.{plain_text, problem_text};
-ghost use Rattle.polarised_formulas.specs.Printing.{AllNamesBelow};
-
 use crate::formula::Formula;
 use crate::logic::Logic;
-use crate::print::waiting::Form;
 use crate::print::words::logic_word;
-use crate::print::writer::Writer;
+use crate::print::writer::{Form, Writer};
 use crate::problem::Problem;
 use fpc_base::outside::OutOfMemory;
 use fpc_terms::names::Names;

@@ -16,7 +16,7 @@ use std::marker::Model;
 
 /// What waits to be written, the innermost first.
 #[derive(Drop)]
-pub(crate) struct Stack {
+struct Stack {
     items: Vec<Waiting>,
 }
 
@@ -62,7 +62,7 @@ pub(crate) struct Progress {
     /// How many quantifiers are around the part that comes next.
     pub depth: u64,
     /// What waits behind that part.
-    pub waiting: Stack,
+    waiting: Stack,
 }
 
 #[tactic(auto, using(crate::proofs::PrintFacts::print_facts))]
@@ -79,7 +79,12 @@ impl Progress {
     }
 
     /// Goes on behind the text of a node, and writes what comes before the next one.
-    pub(crate) fn pass(&mut self, logic: Logic, node: &Node, out: &mut Vec<u8>) -> Result<(), OutOfMemory>
+    pub(crate) fn pass(
+        &mut self,
+        logic: Logic,
+        node: &Node,
+        out: &mut Vec<u8>,
+    ) -> Result<(), OutOfMemory>
         ensures ok { OnOk result (out.new.items ≡ out.old.items ++ behind_text logic node.now self.old.waiting) }
         ensures front { StartsWith out.old.items out.new.items }
         ensures depth { OnOk result (self.new.depth ≡ behind_depth node.now self.old.depth self.old.waiting) }
@@ -87,7 +92,9 @@ impl Progress {
     {
         match *node {
             Node::True(_) | Node::False(_) => self.pass_end(logic, out),
-            Node::Atom { arguments, .. } | Node::Inside(Cell::App(_, arguments)) => self.pass_name(logic, arguments, out),
+            Node::Atom { arguments, .. } | Node::Inside(Cell::App(_, arguments)) => self.pass_name(
+                logic, arguments, out,
+            ),
             Node::Inside(_) => self.pass_end(logic, out),
             Node::And(polarity) => self.open(Operator::Conjunction(polarity)),
             Node::Or(polarity) => self.open(Operator::Disjunction(polarity)),
@@ -109,7 +116,12 @@ impl Progress {
     }
 
     /// Goes on behind a name with so many arguments.
-    fn pass_name(&mut self, logic: Logic, arguments: u8, out: &mut Vec<u8>) -> Result<(), OutOfMemory>
+    fn pass_name(
+        &mut self,
+        logic: Logic,
+        arguments: u8,
+        out: &mut Vec<u8>,
+    ) -> Result<(), OutOfMemory>
         ensures ok { OnOk result (out.new.items ≡ out.old.items ++ name_end_text logic arguments self.old.waiting) }
         ensures front { StartsWith out.old.items out.new.items }
         ensures depth { OnOk result (self.new.depth ≡ name_end_depth arguments self.old.depth self.old.waiting) }

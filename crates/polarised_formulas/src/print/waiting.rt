@@ -1,17 +1,8 @@
 //! What waits to be written.
 use crate::logic::Polarity;
 
-/// How bound variables are written.
-#[derive(Clone, Copy, PartialEq, Eq, Debug)]
-pub(crate) enum Form {
-    /// `#k` by the number of quantifiers between; the quantifiers have no variable.
-    Plain,
-    /// `Xj` by the number of quantifiers around the one that binds it.
-    Named,
-}
-
 /// An operator between two formulas.
-#[derive(Clone, Copy, PartialEq, Eq, Debug)]
+#[derive(Clone, Copy)]
 pub(crate) enum Operator {
     Conjunction(Polarity),
     Disjunction(Polarity),
@@ -19,7 +10,7 @@ pub(crate) enum Operator {
 }
 
 /// What waits to be written behind a part of a formula or term.
-#[derive(Clone, Copy, PartialEq, Eq, Debug)]
+#[derive(Clone, Copy)]
 pub(crate) enum Waiting {
     /// So many further arguments, and the parenthesis that closes them.
     Arguments(u8),
