@@ -4,6 +4,8 @@ ghost use Rattle.polarised_formulas.specs.Text.{plain_text, problem_text};
 ghost use Rattle.polarised_formulas.specs.Printing.{AllNamesBelow};
 
 mod progress;
+#[cfg(test)]
+mod tests;
 mod waiting;
 mod words;
 mod writer;
