@@ -19,6 +19,7 @@ abbrev mutual
   HasNamesBelow n (variable v) = Unit {0}
   HasNamesBelow n (app f ts) = (f < n) × HaveNamesBelow n ts
 
+  -- each name of the arguments has a number below n
   pub HaveNamesBelow : ℕ → Args → Type 0
   HaveNamesBelow n no_args = Unit {0}
   HaveNamesBelow n (arg t ts) = HasNamesBelow n t × HaveNamesBelow n ts
@@ -30,6 +31,7 @@ IsNamedBelow n (Bound k) = Unit {0}
 IsNamedBelow n (Var v) = Unit {0}
 IsNamedBelow n (App f k) = f < n
 
+-- the names of the cells have numbers below n
 abbrev pub AreNamedBelow : ℕ → List Cell → Type 0
 AreNamedBelow n [] = Unit {0}
 AreNamedBelow n (c ∷ cs) = IsNamedBelow n c × AreNamedBelow n cs
@@ -60,11 +62,12 @@ end_counts [] = []
 end_counts (zero ∷ open_counts) = end_counts open_counts
 end_counts (suc n ∷ open_counts) = n ∷ open_counts
 
--- behind the head of a cell with n arguments
+-- behind the head of a cell with n arguments: the parenthesis that opens, where there are any
 abbrev pub behind_text : ℕ → List ℕ → List ℕ
 behind_text zero open_counts = end_text open_counts
 behind_text (suc n) open_counts = 40 ∷ []
 
+-- the parentheses that are open then
 abbrev pub behind_counts : ℕ → List ℕ → List ℕ
 behind_counts zero open_counts = end_counts open_counts
 behind_counts (suc n) open_counts = n ∷ open_counts

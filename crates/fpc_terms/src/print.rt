@@ -35,7 +35,7 @@ pub fn print_term(
     printed
 }
 
-/// Puts a mark with a number behind other bytes.
+/// Puts a mark with a decimal number behind other bytes. On a refusal `out` may have some of it.
 #[tactic(auto, using(crate::proofs::PrintFacts::print_facts))]
 pub fn push_number(
     alloc: Global,
@@ -52,7 +52,7 @@ pub fn push_number(
     Ok(())
 }
 
-/// Puts a name behind other bytes.
+/// Puts a name behind other bytes. On a refusal `out` is as before.
 #[tactic(auto, using(crate::proofs::PrintFacts::print_facts))]
 pub fn push_name(names: &Names, name: NameId, out: &mut Vec<u8>) -> Result<(), OutOfMemory>
     requires { name < length names.now }
@@ -98,8 +98,8 @@ fn push_head(alloc: Global, names: &Names, cell: Cell, out: &mut Vec<u8>) -> Res
     }
 }
 
-/// How many arguments stand behind a cell.
-fn arguments(cell: Cell) -> u8
+/// How many arguments stand behind a cell; a leaf has none.
+pub fn arguments(cell: Cell) -> u8
     ensures { result ≡ arguments_of cell }
 {
     match cell {

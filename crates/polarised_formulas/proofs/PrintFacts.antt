@@ -4,7 +4,7 @@ use Rattle.std.specs.Prelude.{zero, suc, codes}
 use Rattle.fpc_terms.specs.declared.cell.Cell.{Cell}
 use Rattle.fpc_terms.specs.Term.{Term, Args, eigen, bound, variable, app, no_args, arg, count, cells_before, all_before}
 use Rattle.fpc_terms.specs.Text.{Leaves, name_in, term_before, args_before, more_before}
-use Rattle.fpc_terms.specs.Printing.{HaveNamesBelow, AreNamedBelow}
+use Rattle.fpc_terms.specs.Printing.{AreNamedBelow}
 use Rattle.fpc_terms.proofs.PrintFacts.{AreNamedBelow-all_before, front_facts}
 use Rattle.polarised_formulas.specs.declared.logic.Logic.{Logic}
 use Rattle.polarised_formulas.specs.declared.node.Node.{Node}

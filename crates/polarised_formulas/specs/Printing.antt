@@ -33,6 +33,7 @@ IsNodeNamedBelow n (Atom positive f k) = f < n
 IsNodeNamedBelow n (Inside c) = IsNamedBelow n c
 IsNodeNamedBelow n _ = Unit {0}
 
+-- the names of the nodes have numbers below n
 abbrev pub AreNodesNamedBelow : ℕ → List Node → Type 0
 AreNodesNamedBelow n [] = Unit {0}
 AreNodesNamedBelow n (m ∷ ms) = IsNodeNamedBelow n m × AreNodesNamedBelow n ms
@@ -42,6 +43,7 @@ abbrev pub form_style : Form → List (List ℕ) → Style
 form_style Plain names = plain_style (name_in names)
 form_style Named names = named_style (name_in names)
 
+-- the sign of an operator
 abbrev pub operator_text : Logic → Operator → List ℕ
 operator_text logic (Conjunction p) = conj_text p
 operator_text logic (Disjunction p) = disj_text logic p
@@ -83,15 +85,17 @@ end_depth d (Arguments (suc n) ∷ waiting) = d
 end_depth d (Second operator e ∷ waiting) = e
 end_depth d (Close ∷ waiting) = end_depth d waiting
 
--- behind a name with n arguments
+-- behind a name with n arguments: the parenthesis that opens, where there are any
 abbrev pub name_end_text : Logic → ℕ → List Waiting → List ℕ
 name_end_text logic zero waiting = end_text logic waiting
 name_end_text logic (suc n) waiting = 40 ∷ []
 
+-- what waits then
 abbrev pub name_end_waiting : ℕ → List Waiting → List Waiting
 name_end_waiting zero waiting = end_waiting waiting
 name_end_waiting (suc n) waiting = Arguments n ∷ waiting
 
+-- how many quantifiers are around what comes then
 abbrev pub name_end_depth : ℕ → ℕ → List Waiting → ℕ
 name_end_depth zero d waiting = end_depth d waiting
 name_end_depth (suc n) d waiting = d
@@ -108,6 +112,7 @@ behind_text logic ForAll waiting = []
 behind_text logic Exists waiting = []
 behind_text logic (Inside c) waiting = name_end_text logic (arguments_of c) waiting
 
+-- what waits then
 abbrev pub behind_waiting : Node → ℕ → List Waiting → List Waiting
 behind_waiting (True p) d waiting = end_waiting waiting
 behind_waiting (False p) d waiting = end_waiting waiting
@@ -119,6 +124,7 @@ behind_waiting ForAll d waiting = waiting
 behind_waiting Exists d waiting = waiting
 behind_waiting (Inside c) d waiting = name_end_waiting (arguments_of c) waiting
 
+-- how many quantifiers are around what comes then
 abbrev pub behind_depth : Node → ℕ → List Waiting → ℕ
 behind_depth (True p) d waiting = end_depth d waiting
 behind_depth (False p) d waiting = end_depth d waiting

@@ -10,7 +10,7 @@ use crate::node::Node;
 use crate::print::waiting::{Operator, Waiting};
 use crate::print::words::operator_sign;
 use fpc_base::outside::OutOfMemory;
-use fpc_terms::cell::Cell;
+use fpc_terms::print::arguments;
 use std::alloc::Global;
 use std::marker::Model;
 
@@ -92,10 +92,8 @@ impl Progress {
     {
         match *node {
             Node::True(_) | Node::False(_) => self.pass_end(logic, out),
-            Node::Atom { arguments, .. } | Node::Inside(Cell::App(_, arguments)) => self.pass_name(
-                logic, arguments, out,
-            ),
-            Node::Inside(_) => self.pass_end(logic, out),
+            Node::Atom { arguments, .. } => self.pass_name(logic, arguments, out),
+            Node::Inside(cell) => self.pass_name(logic, arguments(cell), out),
             Node::And(polarity) => self.open(Operator::Conjunction(polarity)),
             Node::Or(polarity) => self.open(Operator::Disjunction(polarity)),
             Node::Implies => self.open(Operator::Implication),
@@ -167,6 +165,5 @@ fn push_operator(logic: Logic, operator: Operator, out: &mut Vec<u8>) -> Result<
 {
     out.push(b' ')?;
     out.extend_from_slice(operator_sign(logic, operator).as_bytes())?;
-    out.push(b' ')?;
-    Ok(())
+    Ok(out.push(b' ')?)
 }
