@@ -7,3 +7,4 @@ pub mod TermLaws
 pub mod TermReading
 pub mod BuilderFacts
 pub mod HoldingFacts
+pub mod PrintFacts

@@ -7,3 +7,4 @@ pub mod Spot
 pub mod Machine
 pub mod Partial
 pub mod Holding
+pub mod Printing

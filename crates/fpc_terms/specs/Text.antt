@@ -1,9 +1,9 @@
 -- The text of a term.
-use Rattle.std.specs.Prelude.{ℕ, List, [], ◌∷◌, ◌++◌, codes, get_or}
+use Rattle.std.specs.Prelude.{ℕ, List, [], ◌∷◌, ◌++◌, get_or}
 use Rattle.std.specs.Fmt.{decimal}
 use Rattle.fpc_terms.specs.Term.{Term, Args, eigen, bound, variable, app, no_args, arg}
 
--- how the leaves of a term are written: names by their numbers, bound indexes, variables
+-- how names and the leaves of a term are written, each by its number; an eigenvariable is written in one way only
 pub record Leaves : Type 0 where
   pub name : ℕ → List ℕ
   pub bound : ℕ → List ℕ

@@ -4,3 +4,4 @@ pub mod DualFacts
 pub mod PartFacts
 pub mod OpenedFacts
 pub mod EigenFacts
+pub mod PrintFacts

@@ -56,7 +56,7 @@ module _ (t : Term) (d : ℕ) (s : List ℕ) where
         rw (opened-cells_before u (all_before us cs) ns, opened-all_before us cs ns, first_inside (open_term d t u) (all_before (open_args d t us) []) (opened_nodes t d s (inside_before cs ns)))
 
 -- the depth of the last literal or unit of a formula at depth e
-abbrev last_depth : ℕ → Formula → ℕ
+abbrev pub last_depth : ℕ → Formula → ℕ
 last_depth e (truth p) = e
 last_depth e (falsity p) = e
 last_depth e (atom positive name ts) = e
@@ -66,7 +66,7 @@ last_depth e (implies a b) = last_depth e b
 last_depth e (for_all a) = last_depth (suc e) a
 last_depth e (exists a) = last_depth (suc e) a
 
-deeper-low : (e : ℕ) → suc e ≤ 18446744073709551615 → deeper e ≡ suc e
+pub deeper-low : (e : ℕ) → suc e ≤ 18446744073709551615 → deeper e ≡ suc e
 deeper-low e h = min-eq_left h
 
 opened-nodes_before : (t : Term) (f : Formula) (d e : ℕ) (s : List ℕ) (ns : List Node) → e + node_count f ≤ 18446744073709551615 →

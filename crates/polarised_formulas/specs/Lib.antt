@@ -4,3 +4,4 @@ pub mod Nodes
 pub mod Opened
 pub mod Step
 pub mod Text
+pub mod Printing

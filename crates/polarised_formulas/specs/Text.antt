@@ -8,7 +8,7 @@ use Rattle.polarised_formulas.specs.declared.logic.Polarity.{Polarity}
 use Rattle.polarised_formulas.specs.declared.logic.Polarity.TheVariants.{Positive, Negative}
 use Rattle.polarised_formulas.specs.Formula.{Formula, truth, falsity, atom, conj, disj, implies, for_all, exists}
 
--- how leaves and quantifiers under d others are written
+-- how the leaves under d quantifiers are written, and what stands behind the word of a quantifier under d others
 pub record Style : Type 0 where
   pub leaves : ℕ → Leaves
   pub binder : ℕ → List ℕ
@@ -61,7 +61,7 @@ plain_style name = record { leaves = λ d. plain_leaves name; binder = λ d. [] 
 abbrev pub plain_text : List (List ℕ) → Logic → Formula → List ℕ
 plain_text names logic f = formula_before (plain_style (name_in names)) logic 0 f []
 
--- the leaves under d quantifiers where bound variables have names: the variable under j quantifiers is `Xj`
+-- the leaves under d quantifiers where bound variables have names: the variable of the quantifier under j others is `Xj`; a variable that no quantifier binds is `Pv`
 abbrev pub named_leaves : (ℕ → List ℕ) → ℕ → Leaves
 named_leaves name d = record { name = name; bound = λ k. 88 ∷ decimal (d - 1 - k); variable = λ v. 80 ∷ decimal v }
 

@@ -1,0 +1,180 @@
+//! Terms as texts.
+ghost use Rattle.std.specs.Prelude.{◌≡◌, ℕ, ◌<◌, ◌++◌, ◌∷◌, [], OnOk, OnErr, IfOk, MatchOption, length};
+ghost use Rattle.std.specs.Fmt.{decimal};
+ghost use Rattle.fpc_terms.specs.Text.{term_text, name_in, plain_leaves};
+ghost use Rattle.fpc_terms.specs.Printing.{HasNamesBelow, StartsWith, IsNamedBelow, AreNamedBelow, head_text, arguments_of, end_text, end_counts, behind_text, behind_counts, cells_text};
+
+#[cfg(test)]
+mod tests;
+
+use crate::cell::Cell;
+use crate::name::NameId;
+use crate::names::Names;
+use crate::term::TermBuf;
+use fpc_base::outside::OutOfMemory;
+use std::alloc::Global;
+use std::marker::Model;
+
+/// Puts the text of a term behind other bytes. On a refusal `out` is as before. Time and memory are linear in the text's size.
+#[tactic(auto, using(crate::proofs::PrintFacts::print_facts))]
+pub fn print_term(
+    alloc: Global,
+    names: &Names,
+    term: &TermBuf,
+    out: &mut Vec<u8>,
+) -> Result<(), OutOfMemory>
+    requires { HasNamesBelow (length names.now) term.now }
+    ensures ok { OnOk result (out.new.items ≡ out.old.items ++ term_text names.now term.now) }
+    ensures err { OnErr result (out.new.items ≡ out.old.items) }
+{
+    let start = out.len();
+    let printed = push_cells(alloc, names, term.cells(), out);
+    if printed.is_err() {
+        out.truncate(start);
+    }
+    printed
+}
+
+/// Puts a mark with a decimal number behind other bytes. On a refusal `out` may have some of it.
+#[tactic(auto, using(crate::proofs::PrintFacts::print_facts))]
+pub fn push_number(
+    alloc: Global,
+    mark: u8,
+    number: u64,
+    out: &mut Vec<u8>,
+) -> Result<(), OutOfMemory>
+    ensures ok { OnOk result (out.new.items ≡ out.old.items ++ mark ∷ decimal number) }
+    ensures front { StartsWith out.old.items out.new.items }
+{
+    let digits = format!(in alloc; "{number}")?;
+    out.push(mark)?;
+    out.extend_from_slice(digits.as_bytes())?;
+    Ok(())
+}
+
+/// Puts a name behind other bytes. On a refusal `out` is as before.
+#[tactic(auto, using(crate::proofs::PrintFacts::print_facts))]
+pub fn push_name(names: &Names, name: NameId, out: &mut Vec<u8>) -> Result<(), OutOfMemory>
+    requires { name < length names.now }
+    ensures ok { OnOk result (out.new.items ≡ out.old.items ++ name_in names.now name) }
+    ensures front { StartsWith out.old.items out.new.items }
+{
+    out.extend_from_slice(names.text(name))?;
+    Ok(())
+}
+
+/// Puts the text of a term with these cells behind other bytes.
+#[tactic(auto, using(crate::proofs::PrintFacts::print_facts))]
+fn push_cells(
+    alloc: Global,
+    names: &Names,
+    cells: &[Cell],
+    out: &mut Vec<u8>,
+) -> Result<(), OutOfMemory>
+    requires { AreNamedBelow (length names.now) cells.now }
+    ensures ok { OnOk result (out.new.items ≡ out.old.items ++ cells_text (plain_leaves (name_in names.now)) [] cells.now) }
+    ensures front { StartsWith out.old.items out.new.items }
+{
+    let mut counts = Counts::new(alloc);
+    for cell in cells {
+        push_head(alloc, names, *cell, out)?;
+        push_behind(arguments(*cell), out, &mut counts)?;
+    }
+    Ok(())
+}
+
+/// Puts a leaf, or a name without its arguments, behind other bytes.
+#[tactic(auto, using(crate::proofs::PrintFacts::print_facts))]
+fn push_head(alloc: Global, names: &Names, cell: Cell, out: &mut Vec<u8>) -> Result<(), OutOfMemory>
+    requires { IsNamedBelow (length names.now) cell }
+    ensures ok { OnOk result (out.new.items ≡ out.old.items ++ head_text (plain_leaves (name_in names.now)) cell) }
+    ensures front { StartsWith out.old.items out.new.items }
+{
+    match cell {
+        Cell::Eigen(n) => push_number(alloc, b'$', n, out),
+        Cell::Bound(k) => push_number(alloc, b'#', k as u64, out),
+        Cell::Var(v) => push_number(alloc, b'V', v, out),
+        Cell::App(name, _) => push_name(names, name, out),
+    }
+}
+
+/// How many arguments stand behind a cell; a leaf has none.
+pub fn arguments(cell: Cell) -> u8
+    ensures { result ≡ arguments_of cell }
+{
+    match cell {
+        Cell::App(_, arguments) => arguments,
+        _ => 0,
+    }
+}
+
+/// Puts what stands behind a cell with so many arguments behind other bytes.
+#[tactic(auto, using(crate::proofs::PrintFacts::print_facts))]
+fn push_behind(arguments: u8, out: &mut Vec<u8>, counts: &mut Counts) -> Result<(), OutOfMemory>
+    ensures ok { OnOk result (out.new.items ≡ out.old.items ++ behind_text arguments counts.old) }
+    ensures front { StartsWith out.old.items out.new.items }
+    ensures counts { OnOk result (counts.new ≡ behind_counts arguments counts.old) }
+{
+    if arguments == 0 {
+        return push_end(out, counts);
+    }
+    out.push(b'(')?;
+    counts.push(arguments - 1)
+}
+
+/// Puts what stands behind a term behind other bytes.
+#[tactic(auto, using(crate::proofs::PrintFacts::print_facts))]
+fn push_end(out: &mut Vec<u8>, counts: &mut Counts) -> Result<(), OutOfMemory>
+    ensures ok { OnOk result (out.new.items ≡ out.old.items ++ end_text counts.old) }
+    ensures front { StartsWith out.old.items out.new.items }
+    ensures counts { OnOk result (counts.new ≡ end_counts counts.old) }
+{
+    while let Some(count) = counts.pop() {
+        if count > 0 {
+            out.push(b',')?;
+            return counts.push(count - 1);
+        }
+        out.push(b')')?;
+    }
+    Ok(())
+}
+
+/// For each open parenthesis, the innermost first, how many arguments come behind the one at hand.
+#[derive(Drop)]
+struct Counts {
+    items: Vec<u8>,
+}
+
+impl Model for Counts {
+    ghost use Rattle.std.specs.Prelude.{ℕ, List, reverse};
+    ghost use Rattle.std.specs.Coded.{coded_list, coded_ℕ};
+
+    ghost Value = { List ℕ };
+
+    ghost coded = { coded_list coded_ℕ };
+
+    ghost view = { λ c. reverse c.items.items };
+}
+
+impl Counts {
+    fn new(alloc: Global) -> Counts
+        ensures { result ≡ [] }
+    {
+        Counts {
+            items: Vec::new(alloc),
+        }
+    }
+
+    fn push(&mut self, count: u8) -> Result<(), OutOfMemory>
+        ensures { OnOk result (self.new ≡ count ∷ self.old) }
+    {
+        self.items.push(count)?;
+        Ok(())
+    }
+
+    fn pop(&mut self) -> Option<u8>
+        ensures { MatchOption result ((self.old ≡ []) × (self.new ≡ [])) (λ count. self.old ≡ count ∷ self.new) }
+    {
+        self.items.pop()
+    }
+}

@@ -1,0 +1,72 @@
+//! Formulas and problems as texts.
+ghost use Rattle.std.specs.Prelude.{◌≡◌, ◌++◌, OnOk, OnErr, IfOk, length};
+ghost use Rattle.polarised_formulas.specs.Text.{plain_text, problem_text};
+ghost use Rattle.polarised_formulas.specs.Printing.{AllNamesBelow};
+
+mod progress;
+#[cfg(test)]
+mod tests;
+mod waiting;
+mod words;
+mod writer;
+
+use crate::formula::Formula;
+use crate::logic::Logic;
+use crate::print::words::logic_word;
+use crate::print::writer::{Form, Writer};
+use crate::problem::Problem;
+use fpc_base::outside::OutOfMemory;
+use fpc_terms::names::Names;
+use std::alloc::Global;
+
+/// Puts the plain form of a formula behind other bytes. In LJF, which has one `ff` and one disjunction, their polarity
+/// is left out. On a refusal `out` is as before. Time and memory are linear in the text's size.
+#[tactic(auto, using(crate::proofs::PrintFacts::print_facts))]
+pub fn print_formula(
+    alloc: Global,
+    names: &Names,
+    logic: Logic,
+    f: &Formula,
+    out: &mut Vec<u8>,
+) -> Result<(), OutOfMemory>
+    requires { AllNamesBelow (length names.now) f.now }
+    ensures ok { OnOk result (out.new.items ≡ out.old.items ++ plain_text names.now logic f.now) }
+    ensures err { OnErr result (out.new.items ≡ out.old.items) }
+{
+    let start = out.len();
+    let writer = Writer {
+        alloc,
+        names,
+        logic,
+        form: Form::Plain,
+    };
+    let printed = writer.push_formula(f, out);
+    if printed.is_err() {
+        out.truncate(start);
+    }
+    printed
+}
+
+/// The text of a problem, with named variables. Time and memory are linear in the text's size.
+#[tactic(auto, using(crate::proofs::PrintFacts::print_facts))]
+pub fn print_problem(
+    alloc: Global,
+    names: &Names,
+    problem: &Problem,
+) -> Result<Vec<u8>, OutOfMemory>
+    requires { AllNamesBelow (length names.now) problem.now.goal }
+    ensures { IfOk result (λ text. text.items ≡ problem_text names.now problem.now.logic problem.now.goal) }
+{
+    let writer = Writer {
+        alloc,
+        names,
+        logic: problem.logic,
+        form: Form::Named,
+    };
+    let mut text = Vec::new(alloc);
+    text.extend_from_slice(logic_word(problem.logic).as_bytes())?;
+    text.push(b' ')?;
+    writer.push_formula(&problem.goal, &mut text)?;
+    text.extend_from_slice(b".\n")?;
+    Ok(text)
+}
