@@ -307,7 +307,12 @@ mod tests {
         terms.close();
         assert!(rt; terms.is_closed());
         assert_eq!(rt; terms.count(), 1);
-        let cells = [Cell::App(f, 2), Cell::App(a, 0), Cell::App(g, 1), Cell::App(b, 0)];
+        let cells = [
+            Cell::App(f, 2),
+            Cell::App(a, 0),
+            Cell::App(g, 1),
+            Cell::App(b, 0),
+        ];
         assert_eq!(rt; terms.cells(), cells.as_slice());
         let term = terms.finish(rt.alloc())?.ok_or("no term")?;
         assert_eq!(rt; term.cells(), cells.as_slice());
@@ -321,7 +326,10 @@ mod tests {
         assert!(rt; terms.bound(1)?);
         assert!(rt; terms.variable(2)?);
         assert_eq!(rt; terms.count(), 3);
-        assert_eq!(rt; terms.cells(), [Cell::Eigen(3), Cell::Bound(1), Cell::Var(2)].as_slice());
+        assert_eq!(rt;
+            terms.cells(),
+            [Cell::Eigen(3), Cell::Bound(1), Cell::Var(2)].as_slice()
+        );
         assert!(rt; terms.finish(rt.alloc())?.is_none());
         terms.clear();
         assert_eq!(rt; terms.count(), 0);
