@@ -403,3 +403,79 @@ impl FormulaBuilder {
         }
     }
 }
+
+#[cfg(test)]
+mod tests {
+    use super::*;
+    use fpc_terms::names::Names;
+    use std::test::Fail;
+
+    /// `(p(a) |- all (q(#0) &+ tt+))`
+    #[test]
+    fn quantifiers_end_with_their_bodies(rt: HostRuntime) -> Result<(), Fail> {
+        let alloc = rt.alloc();
+        let mut names = Names::new(alloc);
+        let p = names.intern(b"p")?;
+        let a = names.intern(b"a")?;
+        let q = names.intern(b"q")?;
+        let mut formula = FormulaBuilder::new(alloc);
+        let mut arguments = TermBuilder::new(alloc);
+        assert!(rt; formula.open_pair()?);
+        assert!(rt; arguments.constant(a)?);
+        assert!(rt; formula.literal(true, p, &arguments)?);
+        assert!(rt; !formula.is_wanting());
+        assert!(rt; formula.operator(Joiner::Or(Polarity::Negative)));
+        assert!(rt; formula.quantifier(Binder::ForAll)?);
+        assert!(rt; formula.open_pair()?);
+        assert_eq!(rt; formula.depth(), 3);
+        assert_eq!(rt; formula.quantifiers(), 1);
+        arguments.clear();
+        assert!(rt; arguments.bound(0)?);
+        assert!(rt; formula.literal(true, q, &arguments)?);
+        assert!(rt; formula.operator(Joiner::And(Polarity::Positive)));
+        assert!(rt; formula.truth(Polarity::Positive)?);
+        assert!(rt; formula.close());
+        assert!(rt; formula.close());
+        assert_eq!(rt; formula.depth(), 0);
+        let nodes = [
+            Node::Or(Polarity::Negative),
+            Node::Atom {
+                positive: true,
+                name: p,
+                arguments: 1,
+            },
+            Node::Inside(Cell::App(a, 0)),
+            Node::ForAll,
+            Node::And(Polarity::Positive),
+            Node::Atom {
+                positive: true,
+                name: q,
+                arguments: 1,
+            },
+            Node::Inside(Cell::Bound(0)),
+            Node::True(Polarity::Positive),
+        ];
+        let whole = formula.finish(alloc)?.ok_or("no formula")?;
+        assert_eq!(rt; whole.nodes(), nodes.as_slice());
+        Ok(())
+    }
+
+    #[test]
+    fn what_does_not_fit_is_refused(rt: HostRuntime) -> Result<(), Fail> {
+        let mut formula = FormulaBuilder::new(rt.alloc());
+        assert!(rt; !formula.close());
+        assert!(rt; !formula.operator(Joiner::Implies));
+        assert!(rt; formula.quantifier(Binder::Exists)?);
+        assert!(rt; formula.falsity(Polarity::Positive)?);
+        assert!(rt; !formula.truth(Polarity::Positive)?);
+        assert!(rt; !formula.open_pair()?);
+        assert!(rt; !formula.close());
+        let whole = formula.finish(rt.alloc())?.ok_or("no formula")?;
+        assert_eq!(rt; whole.nodes(), [Node::Exists, Node::False(Polarity::Positive)].as_slice());
+        let mut open_pair = FormulaBuilder::new(rt.alloc());
+        assert!(rt; open_pair.open_pair()?);
+        assert!(rt; open_pair.falsity(Polarity::Negative)?);
+        assert!(rt; open_pair.finish(rt.alloc())?.is_none());
+        Ok(())
+    }
+}

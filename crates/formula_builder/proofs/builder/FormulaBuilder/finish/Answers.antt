@@ -11,7 +11,7 @@ returns-then-not-self c = elim c.then-not-self.branch [
 | then-not-self-via-else-not-self+then-len-quantifiers w ↦
       let h = IsOf-now c.self.inside.nodes.items c.self.inside.around c.self.inside.is_whole c.self.inside.is_whole c.args.self c.self.invariant c.self.view_is refl in
       sym (not_whole-from_IsOf c.self.inside.nodes.items c.self.inside.around c.self.inside.is_whole c.args.self h (λ e. w.if-len-quantifiers.true (w.len.ensures ∙ e ∙ sym w.quantifiers.ensures)))
-]
+  ]
 
 pub from_nodes-requires : goal.from_nodes-requires
 from_nodes-requires c =
