@@ -1,19 +1,19 @@
 -- What the nodes of an unfinished formula are like.
-use Rattle.std.proofs.Common.{◌≡◌, ℕ, zero, suc, ◌+◌, ◌<◌, ◌≤◌, ◌-◌, List, [], ◌∷◌, ◌++◌, length, take, drop, get_or, reverse, refl, sym, ap, ◌∙◌, subst, arith, append-nil, append_assoc, length-append}
-use Rattle.std.specs.Prelude.{Bool, true, false, not, IsTrue, Option, Some, None, slice_set, slice_get}
+use Rattle.std.proofs.Common.{◌≡◌, ℕ, suc, ◌<◌, ◌≤◌, ◌-◌, List, [], ◌∷◌, ◌++◌, length, take, drop, get_or, reverse, refl, sym, ap, ◌∙◌, subst, arith, length-append}
+use Rattle.std.specs.Prelude.{Bool, true, false, not, Some, None, slice_set, slice_get}
 use Rattle.std.proofs.Math.Seq.{take-append_seam, drop-append_seam, set-append_seam, drop-cons}
 use Rattle.std.proofs.lemmas.List.{take-append-drop, length-take-le, reverse-append, drop_all}
 use Rattle.std.proofs.lemmas.Option.{slice_get_within, get_or_from_slice_get}
 use Rattle.fpc_terms.specs.declared.cell.Cell.{Cell}
-use Rattle.fpc_terms.specs.Term.{Args, count, all_before}
+use Rattle.fpc_terms.specs.Term.{count, all_before}
 use Rattle.polarised_formulas.specs.declared.node.Node.{Node}
-use Rattle.polarised_formulas.specs.declared.node.Node.TheVariants.{True, False, Atom, And, Or, Implies, ForAll, Exists, Inside}
+use Rattle.polarised_formulas.specs.declared.node.Node.TheVariants.{Atom, And, Or, Implies, ForAll, Exists, Inside}
 use Rattle.polarised_formulas.specs.Formula.{Formula, truth, falsity, atom, conj, disj, implies, for_all, exists, inside_before, nodes_before, nodes_of, formula_of, formulas_of, first_formula, later_formulas, formulas_of-nodes_before, formula_of-nodes_of, IsOneFormula}
 use Rattle.formula_builder.specs.declared.builder.Joiner as joiner
 use Rattle.formula_builder.specs.declared.builder.Binder as binder
 use Rattle.formula_builder.specs.declared.builder.Around.{Around}
 use Rattle.formula_builder.specs.declared.builder.Around.TheVariants.{First, Second, Under}
-use Rattle.formula_builder.specs.Unfinished.{join, bind, joiner_node, binder_node, Hole, first_of, second_of, under, Unfinished, wants, has, hole_from, holes_in, quantifiers_in, is_wanting, placed, opened, quantified, left_of, left, takes_joiner, joined, takes_close, closed, whole, nodes_to, around_of, holes_of, formula_in, unfinished_of, Holds, IsOf, begins_under, under_left, unders_left, count_unders, first_slot, first_turned, begins_second, second_left}
+use Rattle.formula_builder.specs.Unfinished.{join, bind, joiner_node, binder_node, Hole, first_of, second_of, under, Unfinished, wants, has, hole_from, holes_in, quantifiers_in, is_wanting, placed, opened, quantified, left_of, left, takes_joiner, joined, takes_close, closed, whole, nodes_to, around_of, holes_of, formula_in, unfinished_of, Holds, IsOf, unders_left, count_unders, first_slot, first_turned, begins_second, second_left}
 
 pub inside_before-append : (cs : List Cell) (xs ys : List Node) → inside_before cs xs ++ ys ≡ inside_before cs (xs ++ ys)
 inside_before-append [] xs ys = refl

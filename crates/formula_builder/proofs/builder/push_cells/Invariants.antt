@@ -1,4 +1,4 @@
-use Rattle.std.proofs.Common.{◌≡◌, ◌++◌, [], drop, length, List}
+use Rattle.std.proofs.Common.{◌≡◌, ◌++◌, [], drop, List}
 use Rattle.polarised_formulas.specs.declared.node.Node.{Node}
 use Rattle.polarised_formulas.specs.Formula.{inside_before}
 use Rattle.formula_builder.proofs.builder.push_cells.Given as goal

@@ -1,5 +1,5 @@
 use Rattle.std.proofs.Common.{◌≡◌, true, ap, ◌∙◌}
-use Rattle.formula_builder.specs.Unfinished.{left, closed, takes_close, unders_left, second_left, begins_second, IsOf}
+use Rattle.formula_builder.specs.Unfinished.{left, closed, takes_close, unders_left, begins_second, IsOf}
 use Rattle.formula_builder.proofs.UnfinishedFacts.{IsOf-now, IsOf-left, IsOf-closed, value-from_IsOf, invariant-from_IsOf}
 use Rattle.formula_builder.proofs.builder.FormulaBuilder.close.Goals as goal
 

@@ -1,4 +1,4 @@
-use Rattle.std.proofs.Common.{◌≡◌, length, ap, ◌∙◌, refl}
+use Rattle.std.proofs.Common.{length, ap, ◌∙◌, refl}
 use Rattle.formula_builder.specs.Unfinished.{holes_in}
 use Rattle.formula_builder.proofs.UnfinishedFacts.{IsOf-now, around-from_IsOf, length-around_of}
 use Rattle.formula_builder.proofs.builder.FormulaBuilder.depth.Goals as goal

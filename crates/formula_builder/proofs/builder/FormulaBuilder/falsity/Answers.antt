@@ -1,4 +1,4 @@
-use Rattle.std.proofs.Common.{◌≡◌, ◌++◌, ◌∷◌, [], true, false}
+use Rattle.std.proofs.Common.{true, false}
 use Rattle.polarised_formulas.specs.Formula.{falsity}
 use Rattle.formula_builder.specs.Unfinished.{placed, IsOf}
 use Rattle.formula_builder.proofs.UnfinishedFacts.{IsOf-now, IsOf-placed, value-from_IsOf, invariant-from_IsOf}

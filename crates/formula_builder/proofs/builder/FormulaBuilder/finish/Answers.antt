@@ -1,4 +1,4 @@
-use Rattle.std.proofs.Common.{◌≡◌, true, false, sym, ◌∙◌, refl}
+use Rattle.std.proofs.Common.{true, false, sym, ◌∙◌, refl}
 use Rattle.formula_builder.proofs.UnfinishedFacts.{IsOf-now, whole-from_IsOf, not_whole-from_IsOf, wants-not_whole}
 use Rattle.formula_builder.proofs.builder.FormulaBuilder.finish.Goals as goal
 use Rattle.formula_builder.proofs.builder.FormulaBuilder.finish.Goals.{then-not-self-via-then-not-self, then-not-self-via-else-not-self+then-len-quantifiers}
@@ -8,7 +8,7 @@ returns-then-not-self c = elim c.then-not-self.branch [
   then-not-self-via-then-not-self w ↦
       let h = IsOf-now c.self.inside.nodes.items c.self.inside.around c.self.inside.is_whole false c.args.self c.self.invariant c.self.view_is w.if-not-self.true in
       sym (wants-not_whole c.self.inside.nodes.items c.self.inside.around c.args.self h)
-| then-not-self-via-else-not-self+then-len-quantifiers w ↦
+  | then-not-self-via-else-not-self+then-len-quantifiers w ↦
       let h = IsOf-now c.self.inside.nodes.items c.self.inside.around c.self.inside.is_whole c.self.inside.is_whole c.args.self c.self.invariant c.self.view_is refl in
       sym (not_whole-from_IsOf c.self.inside.nodes.items c.self.inside.around c.self.inside.is_whole c.args.self h (λ e. w.if-len-quantifiers.true (w.len.ensures ∙ e ∙ sym w.quantifiers.ensures)))
   ]

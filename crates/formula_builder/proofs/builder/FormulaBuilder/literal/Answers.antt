@@ -1,4 +1,4 @@
-use Rattle.std.proofs.Common.{◌≡◌, true, false, refl}
+use Rattle.std.proofs.Common.{true, false, refl}
 use Rattle.term_builder.specs.Partial.{args_of_frame}
 use Rattle.polarised_formulas.specs.Formula.{atom}
 use Rattle.formula_builder.specs.Unfinished.{placed, IsOf}

@@ -1,7 +1,5 @@
-use Rattle.std.proofs.Common.{◌≡◌, ◌++◌, ◌∷◌, [], false, arith, length, refl, sym}
+use Rattle.std.proofs.Common.{◌≡◌, false, arith, length}
 use Rattle.std.proofs.lemmas.Grind.{common_steps}
-use Rattle.polarised_formulas.specs.declared.node.Node.TheVariants.{Implies}
-use Rattle.formula_builder.specs.declared.builder.Around.TheVariants.{First}
 use Rattle.formula_builder.specs.Unfinished.{opened, IsOf}
 use Rattle.formula_builder.proofs.UnfinishedFacts.{IsOf-now, IsOf-opened, value-from_IsOf, invariant-from_IsOf}
 use Rattle.formula_builder.proofs.builder.FormulaBuilder.open_pair.Goals as goal

@@ -1,5 +1,5 @@
-use Rattle.std.proofs.Common.{◌≡◌, true, false, ap, sym, ◌∙◌, None}
-use Rattle.formula_builder.specs.Unfinished.{left, joined, takes_joiner, unders_left, first_slot, first_turned, IsOf}
+use Rattle.std.proofs.Common.{◌≡◌, true, false, ap, sym, ◌∙◌}
+use Rattle.formula_builder.specs.Unfinished.{left, joined, takes_joiner, unders_left, first_slot, IsOf}
 use Rattle.formula_builder.proofs.UnfinishedFacts.{IsOf-now, IsOf-left, IsOf-joined, IsOf-not_joined, value-from_IsOf, invariant-from_IsOf}
 use Rattle.formula_builder.proofs.builder.FormulaBuilder.operator.Goals as goal
 

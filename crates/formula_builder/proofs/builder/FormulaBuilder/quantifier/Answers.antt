@@ -1,6 +1,5 @@
-use Rattle.std.proofs.Common.{◌≡◌, ◌++◌, ◌∷◌, [], false, arith, length, refl, sym}
+use Rattle.std.proofs.Common.{◌≡◌, false, arith, length}
 use Rattle.std.proofs.lemmas.Grind.{common_steps}
-use Rattle.formula_builder.specs.declared.builder.Around.TheVariants.{Under}
 use Rattle.formula_builder.specs.Unfinished.{quantified, IsOf}
 use Rattle.formula_builder.proofs.UnfinishedFacts.{IsOf-now, IsOf-quantified, value-from_IsOf, invariant-from_IsOf}
 use Rattle.formula_builder.proofs.builder.FormulaBuilder.quantifier.Goals as goal

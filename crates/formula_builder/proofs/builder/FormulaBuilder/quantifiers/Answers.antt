@@ -1,4 +1,4 @@
-use Rattle.std.proofs.Common.{◌≡◌, ap, ◌∙◌, refl}
+use Rattle.std.proofs.Common.{ap, ◌∙◌, refl}
 use Rattle.formula_builder.specs.Unfinished.{holes_in, count_unders}
 use Rattle.formula_builder.proofs.UnfinishedFacts.{IsOf-now, around-from_IsOf, count_unders-around_of}
 use Rattle.formula_builder.proofs.builder.FormulaBuilder.quantifiers.Goals as goal

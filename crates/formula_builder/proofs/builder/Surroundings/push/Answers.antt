@@ -1,4 +1,4 @@
-use Rattle.std.proofs.Common.{arith, ◌≤◌, ◌≡◌, length, reverse}
+use Rattle.std.proofs.Common.{arith, ◌≤◌, length, reverse}
 use Rattle.std.proofs.lemmas.Grind.{common_steps}
 use Rattle.std.proofs.lemmas.List.{length-reverse}
 use Rattle.formula_builder.specs.Unfinished.{count_unders}
