@@ -183,11 +183,13 @@ IsOf-joined j ns new places i (has f (first_of ∷ hs)) h e put =
     let place : i ≡ length (nodes_to hs []) = let found = sym e ∙ ap first_slot h.around in cc in
     let split : ns ≡ nodes_to hs [] ++ Implies ∷ nodes_of f = h.nodes ∙ nodes_to-split hs (Implies ∷ nodes_of f) in
     let within : i < length ns = omega (arith, place, ap length split, length-append (nodes_to hs []) (Implies ∷ nodes_of f)) in
-    let set : new ≡ nodes_to hs [] ++ joiner_node j ∷ nodes_of f = put within ∙ rw (place, split) (set-append_seam (nodes_to hs []) Implies (nodes_of f) (joiner_node j)) in
-    (record {
-      nodes = set ∙ sym (nodes_to-split hs (joiner_node j ∷ nodes_of f));
-      around = ap first_turned h.around;
-    }, refl)
+    let set : new ≡ nodes_to hs [] ++ joiner_node j ∷ nodes_of f = put within ∙ rw (place, split) (set-append_seam (nodes_to hs []) Implies (nodes_of f) (joiner_node j)) in (
+      record {
+        nodes = set ∙ sym (nodes_to-split hs (joiner_node j ∷ nodes_of f));
+        around = ap first_turned h.around;
+      },
+      refl,
+    )
 IsOf-joined j ns new places i (has f (second_of k a ∷ hs)) h e put = let none : first_slot places ≡ None = ap first_slot h.around in cc
 IsOf-joined j ns new places i (has f (under q ∷ hs)) h e put = let none : first_slot places ≡ None = ap first_slot h.around in cc
 IsOf-joined j ns new places i (wants hs) h e put = absurd h

@@ -5,13 +5,13 @@ use Rattle.formula_builder.proofs.builder.FormulaBuilder.finish.Goals.{then-not-
 
 pub returns-then-not-self : goal.returns-then-not-self
 returns-then-not-self c = elim c.then-not-self.branch [
-  then-not-self-via-then-not-self w ↦
+  | then-not-self-via-then-not-self w ↦
       let h = IsOf-now c.self.inside.nodes.items c.self.inside.around c.self.inside.is_whole false c.args.self c.self.invariant c.self.view_is w.if-not-self.true in
       sym (wants-not_whole c.self.inside.nodes.items c.self.inside.around c.args.self h)
   | then-not-self-via-else-not-self+then-len-quantifiers w ↦
       let h = IsOf-now c.self.inside.nodes.items c.self.inside.around c.self.inside.is_whole c.self.inside.is_whole c.args.self c.self.invariant c.self.view_is refl in
       sym (not_whole-from_IsOf c.self.inside.nodes.items c.self.inside.around c.self.inside.is_whole c.args.self h (λ e. w.if-len-quantifiers.true (w.len.ensures ∙ e ∙ sym w.quantifiers.ensures)))
-  ]
+]
 
 pub from_nodes-requires : goal.from_nodes-requires
 from_nodes-requires c =
