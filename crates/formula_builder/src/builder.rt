@@ -444,22 +444,18 @@ mod tests {
         assert!(rt; formula.close());
         assert!(rt; formula.close());
         assert!(rt; !formula.is_wanting());
-        let first = [
+        let nodes = [
             Node::Or(Polarity::Negative),
             literal(p),
             Node::Inside(Cell::App(a, 0)),
-        ];
-        let body = [
+            Node::ForAll,
             Node::And(Polarity::Positive),
             literal(q),
             Node::Inside(Cell::Bound(0)),
             Node::True(Polarity::Positive),
         ];
         let whole = formula.finish(alloc)?.ok_or("no formula")?;
-        assert_eq!(rt; whole.nodes().len(), 8);
-        assert_eq!(rt; whole.nodes()[..3], first);
-        assert_eq!(rt; whole.nodes()[3], Node::ForAll);
-        assert_eq!(rt; whole.nodes()[4..], body);
+        assert_eq!(rt; whole.nodes(), nodes.as_slice());
         Ok(())
     }
 
