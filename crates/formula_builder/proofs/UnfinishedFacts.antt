@@ -1,17 +1,19 @@
 -- What the nodes of an unfinished formula are like.
-use Rattle.std.proofs.Common.{◌≡◌, ℕ, zero, suc, ◌+◌, ◌<◌, ◌≤◌, ◌-◌, List, [], ◌∷◌, ◌++◌, length, take, drop, get_or, reverse, refl, sym, ap, ◌∙◌, subst, arith, append-nil, append_assoc, length-append}
-use Rattle.std.specs.Prelude.{Bool, true, false, not, IsTrue, Option, Some, None, slice_set, slice_get}
-use Rattle.std.proofs.Math.Seq.{take-append_seam, drop-append_seam, set-append_seam}
+use Rattle.std.proofs.Common.{◌≡◌, ℕ, suc, ◌<◌, ◌≤◌, ◌-◌, List, [], ◌∷◌, ◌++◌, length, take, drop, get_or, reverse, refl, sym, ap, ◌∙◌, subst, arith, length-append}
+use Rattle.std.specs.Prelude.{Bool, true, false, not, Some, None, slice_set, slice_get}
+use Rattle.std.proofs.Math.Seq.{take-append_seam, drop-append_seam, set-append_seam, drop-cons}
+use Rattle.std.proofs.lemmas.List.{take-append-drop, length-take-le, reverse-append, drop_all}
+use Rattle.std.proofs.lemmas.Option.{slice_get_within, get_or_from_slice_get}
 use Rattle.fpc_terms.specs.declared.cell.Cell.{Cell}
-use Rattle.fpc_terms.specs.Term.{Args, count, all_before}
+use Rattle.fpc_terms.specs.Term.{count, all_before}
 use Rattle.polarised_formulas.specs.declared.node.Node.{Node}
-use Rattle.polarised_formulas.specs.declared.node.Node.TheVariants.{True, False, Atom, And, Or, Implies, ForAll, Exists, Inside}
+use Rattle.polarised_formulas.specs.declared.node.Node.TheVariants.{Atom, And, Or, Implies, ForAll, Exists, Inside}
 use Rattle.polarised_formulas.specs.Formula.{Formula, truth, falsity, atom, conj, disj, implies, for_all, exists, inside_before, nodes_before, nodes_of, formula_of, formulas_of, first_formula, later_formulas, formulas_of-nodes_before, formula_of-nodes_of, IsOneFormula}
 use Rattle.formula_builder.specs.declared.builder.Joiner as joiner
 use Rattle.formula_builder.specs.declared.builder.Binder as binder
 use Rattle.formula_builder.specs.declared.builder.Around.{Around}
 use Rattle.formula_builder.specs.declared.builder.Around.TheVariants.{First, Second, Under}
-use Rattle.formula_builder.specs.Unfinished.{join, bind, joiner_node, binder_node, Hole, first_of, second_of, under, Unfinished, wants, has, hole_from, holes_in, quantifiers_in, is_wanting, placed, opened, quantified, left_of, left, takes_joiner, joined, takes_close, closed, whole, nodes_to, around_of, holes_of, formula_in, unfinished_of, Holds, IsOf, begins_under, under_left, unders_left, count_unders, first_slot, first_turned, begins_second, second_left}
+use Rattle.formula_builder.specs.Unfinished.{join, bind, joiner_node, binder_node, Hole, first_of, second_of, under, Unfinished, wants, has, hole_from, holes_in, quantifiers_in, is_wanting, placed, opened, quantified, left_of, left, takes_joiner, joined, takes_close, closed, whole, nodes_to, around_of, holes_of, formula_in, unfinished_of, Holds, IsOf, unders_left, count_unders, first_slot, first_turned, begins_second, second_left}
 
 pub inside_before-append : (cs : List Cell) (xs ys : List Node) → inside_before cs xs ++ ys ≡ inside_before cs (xs ++ ys)
 inside_before-append [] xs ys = refl
@@ -181,11 +183,13 @@ IsOf-joined j ns new places i (has f (first_of ∷ hs)) h e put =
     let place : i ≡ length (nodes_to hs []) = let found = sym e ∙ ap first_slot h.around in cc in
     let split : ns ≡ nodes_to hs [] ++ Implies ∷ nodes_of f = h.nodes ∙ nodes_to-split hs (Implies ∷ nodes_of f) in
     let within : i < length ns = omega (arith, place, ap length split, length-append (nodes_to hs []) (Implies ∷ nodes_of f)) in
-    let set : new ≡ nodes_to hs [] ++ joiner_node j ∷ nodes_of f = put within ∙ rw (place, split) (set-append_seam (nodes_to hs []) Implies (nodes_of f) (joiner_node j)) in
-    (record {
-      nodes = set ∙ sym (nodes_to-split hs (joiner_node j ∷ nodes_of f));
-      around = ap first_turned h.around;
-    }, refl)
+    let set : new ≡ nodes_to hs [] ++ joiner_node j ∷ nodes_of f = put within ∙ rw (place, split) (set-append_seam (nodes_to hs []) Implies (nodes_of f) (joiner_node j)) in (
+      record {
+        nodes = set ∙ sym (nodes_to-split hs (joiner_node j ∷ nodes_of f));
+        around = ap first_turned h.around;
+      },
+      refl,
+    )
 IsOf-joined j ns new places i (has f (second_of k a ∷ hs)) h e put = let none : first_slot places ≡ None = ap first_slot h.around in cc
 IsOf-joined j ns new places i (has f (under q ∷ hs)) h e put = let none : first_slot places ≡ None = ap first_slot h.around in cc
 IsOf-joined j ns new places i (wants hs) h e put = absurd h
@@ -246,10 +250,37 @@ not_whole-from_IsOf ns places false (has f hs) h e = absurd h
 not_whole-from_IsOf ns places true (wants hs) h e = absurd h
 
 -- nothing is whole where a formula is to come
-pub wants-from_IsOf : (ns : List Node) (places : List Around) (u : Unfinished) → IsOf ns places false u → (hs : List Hole) × (u ≡ wants hs)
-wants-from_IsOf ns places (wants hs) h = (hs, refl)
-wants-from_IsOf ns places (has f hs) h = absurd h
+pub wants-not_whole : (ns : List Node) (places : List Around) (u : Unfinished) → IsOf ns places false u → whole (left u) ≡ None
+wants-not_whole ns places (wants hs) h = refl
+wants-not_whole ns places (has f hs) h = absurd h
 
-pub has-from_IsOf : (ns : List Node) (places : List Around) (u : Unfinished) → IsOf ns places true u → (f : Formula) × (hs : List Hole) × (u ≡ has f hs)
-has-from_IsOf ns places (has f hs) h = (f, hs, refl)
-has-from_IsOf ns places (wants hs) h = absurd h
+-- what the fields are now
+pub IsOf-now : (ns : List Node) (places : List Around) (b c : Bool) (u : Unfinished) → IsOf ns places b (unfinished_of ns places b) → unfinished_of ns places b ≡ u → b ≡ c → IsOf ns places c u
+IsOf-now ns places b c u h e same = subst (λ (d : Bool). IsOf ns places d u) same (IsOf-at ns places b (unfinished_of ns places b) u h e)
+
+-- the last item by itself
+pub last-split : (xs : List Around) (i : ℕ) (x : Around) → slice_get xs (length xs - 1) ≡ Some x → i ≡ length xs - 1 → xs ≡ take i xs ++ x ∷ []
+last-split xs i x e at =
+    let here : slice_get xs i ≡ Some x = rw at e in
+    let within : i < length xs = slice_get_within xs i x here in
+    let item : get_or xs i x ≡ x = get_or_from_slice_get xs i x x here in
+    let behind : drop (suc i) xs ≡ [] = drop_all (suc i) xs (omega arith) in
+    let cut : drop i xs ≡ x ∷ [] = drop-cons xs i x within ∙ ap (λ y. y ∷ drop (suc i) xs) item ∙ ap (λ ys. x ∷ ys) behind in
+    sym (take-append-drop i xs) ∙ ap (λ ys. take i xs ++ ys) cut
+
+-- the last item is changed
+pub last-turned : (xs : List Around) (i k : ℕ) → slice_get xs (length xs - 1) ≡ Some (First k) → i ≡ length xs - 1 → reverse (slice_set xs i (Second k)) ≡ first_turned (reverse xs)
+last-turned xs i k e at =
+    let split : xs ≡ take i xs ++ First k ∷ [] = last-split xs i (First k) e at in
+    let here : slice_get xs i ≡ Some (First k) = rw at e in
+    let within : i < length xs = slice_get_within xs i (First k) here in
+    let long : length (take i xs) ≡ i = length-take-le i xs (omega arith) in
+    let set : slice_set (take i xs ++ First k ∷ []) (length (take i xs)) (Second k) ≡ take i xs ++ Second k ∷ [] = set-append_seam (take i xs) (First k) [] (Second k) in
+    let new : slice_set xs i (Second k) ≡ take i xs ++ Second k ∷ [] = ap (λ ys. slice_set ys i (Second k)) split ∙ ap (λ n. slice_set (take i xs ++ First k ∷ []) n (Second k)) (sym long) ∙ set in
+    ap reverse new ∙ reverse-append (take i xs) (Second k ∷ []) ∙ sym (ap first_turned (ap reverse split ∙ reverse-append (take i xs) (First k ∷ [])))
+
+pub count_unders-turned : (places : List Around) → count_unders (first_turned places) ≡ count_unders places
+count_unders-turned [] = refl
+count_unders-turned (First i ∷ places) = refl
+count_unders-turned (Second i ∷ places) = refl
+count_unders-turned (Under i ∷ places) = refl

@@ -1,9 +1,9 @@
 -- Formulas that are being built, as zippers, and the nodes that stand for them.
-use Rattle.std.specs.Prelude.{◌≡◌, ℕ, suc, Bool, true, false, not, List, [], ◌∷◌, ◌++◌, length, take, drop, Option, Some, None, refl}
+use Rattle.std.specs.Prelude.{◌≡◌, ℕ, suc, Bool, true, false, List, [], ◌∷◌, length, take, drop, Option, Some, None, refl}
 use Rattle.std.specs.Coded.{Coded, code_by, coded_list, coded×, coded_option}
 use Rattle.std.proofs.Common.{ap}
 use Rattle.polarised_formulas.specs.declared.node.Node.{Node}
-use Rattle.polarised_formulas.specs.declared.node.Node.TheVariants.{True, False, Atom, And, Or, Implies, ForAll, Exists, Inside}
+use Rattle.polarised_formulas.specs.declared.node.Node.TheVariants.{And, Or, Implies, ForAll, Exists}
 use Rattle.polarised_formulas.specs.contracts.node.Node as node
 use Rattle.polarised_formulas.specs.Formula.{Formula, conj, disj, implies, for_all, exists, nodes_before, nodes_of, formula_of, formulas_of, first_formula, later_formulas, formula_code, formula_of-nodes_of}
 use Rattle.formula_builder.specs.declared.builder.Joiner as joiner

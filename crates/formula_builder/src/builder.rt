@@ -1,7 +1,7 @@
 //! Formulas that are built from the left, with no recursion.
 ghost use Rattle.std.specs.Prelude.{◌≡◌, ℕ, ◌<◌, ◌+◌, ◌^◌, ◌++◌, ◌∷◌, [], List, Bool, true, false, ◌&&◌, length, take, drop, IsTrue, IfOk, OnOk, OnErr, ◌↔◌, Some, None, slice_set};
 ghost use Rattle.fpc_terms.specs.Term.{count, all_before};
-ghost use Rattle.fpc_terms.specs.Partial.{args_of_frame};
+ghost use Rattle.fpc_terms.specs.Partial.{arguments_of};
 ghost use Rattle.polarised_formulas.specs.declared.node.Node.TheVariants.{Atom, Implies};
 ghost use Rattle.polarised_formulas.specs.Formula.{truth, falsity, atom, inside_before, nodes_of};
 ghost use Rattle.formula_builder.specs.Unfinished.{nothing, joiner_node, binder_node, holes_in, quantifiers_in, is_wanting, placed, opened, quantified, left, takes_joiner, joined, takes_close, closed, whole, begins_under, under_left, unders_left, count_unders, first_slot, first_turned, begins_second, second_left};
@@ -14,7 +14,7 @@ use polarised_formulas::logic::Polarity;
 use polarised_formulas::node::Node;
 use std::alloc::Global;
 use std::marker::Model;
-use term_builder::builder::TermBuilder;
+use fpc_terms::builder::TermBuilder;
 
 /// A connective of two formulas.
 #[derive(Clone, Copy, PartialEq, Eq, Debug)]
@@ -196,7 +196,7 @@ fn push_literal(
     name: NameId,
     arguments: &TermBuilder,
 ) -> Result<(), OutOfMemory>
-    ensures ok { arguments.now.frames ≡ [] → OnOk result (nodes.new.items ≡ nodes.old.items ++ nodes_of (atom positive name (args_of_frame arguments.now.base))) }
+    ensures ok { arguments.now.frames ≡ [] → OnOk result (nodes.new.items ≡ nodes.old.items ++ nodes_of (atom positive name (arguments_of arguments.now.base))) }
     ensures kept { take (length nodes.old.items) nodes.new.items ≡ nodes.old.items }
 {
     let literal = Node::Atom {
@@ -303,7 +303,7 @@ impl FormulaBuilder {
         arguments: &TermBuilder,
     ) -> Result<bool, OutOfMemory>
         ensures answer { IfOk result (λ done. IsTrue done ↔ (is_wanting self.old ≡ true) × (arguments.now.frames ≡ [])) }
-        ensures ok { IfOk result (λ done. IsTrue done → self.new ≡ placed (atom positive name (args_of_frame arguments.now.base)) self.old) }
+        ensures ok { IfOk result (λ done. IsTrue done → self.new ≡ placed (atom positive name (arguments_of arguments.now.base)) self.old) }
         ensures unfit { IfOk result (λ done. ¬ (IsTrue done) → self.new ≡ self.old) }
         ensures err { OnErr result (self.new ≡ self.old) }
     {
@@ -357,8 +357,8 @@ impl FormulaBuilder {
         Ok(true)
     }
 
-    /// Gives the innermost pair its connective; its second part comes next. The answer is false where the formula so
-    /// far, with the quantifiers around it, is not the first part of a pair.
+    /// Ends the quantifiers around the formula so far, which then is the first part of the innermost pair, and gives
+    /// the pair its connective; its second part comes next. The answer is false where there is no such pair.
     pub fn operator(&mut self, joiner: Joiner) -> bool
         ensures answer { result ≡ takes_joiner (left self.old) }
         ensures value { self.new ≡ joined joiner (left self.old) }
@@ -377,8 +377,8 @@ impl FormulaBuilder {
         }
     }
 
-    /// Ends the innermost pair. The answer is false where the formula so far, with the quantifiers around it, is not the
-    /// second part of a pair.
+    /// Ends the quantifiers around the formula so far, which then is the second part of the innermost pair, and ends
+    /// the pair. The answer is false where there is no such pair.
     pub fn close(&mut self) -> bool
         ensures answer { result ≡ takes_close (left self.old) }
         ensures value { self.new ≡ closed (left self.old) }
@@ -401,5 +401,83 @@ impl FormulaBuilder {
             Ok(formula) => Ok(Some(formula)),
             Err(error) => Err(error),
         }
+    }
+}
+
+#[cfg(test)]
+mod tests {
+    use super::*;
+    use fpc_terms::names::Names;
+    use std::test::Fail;
+
+    /// A positive literal with one argument.
+    fn literal(name: NameId) -> Node {
+        Node::Atom {
+            positive: true,
+            name,
+            arguments: 1,
+        }
+    }
+
+    /// `(p(a) |- all (q(#0) &+ tt+))`
+    #[test]
+    fn quantifiers_end_with_their_bodies(rt: HostRuntime) -> Result<(), Fail> {
+        let alloc = rt.alloc();
+        let mut names = Names::new(alloc);
+        let p = names.intern(b"p")?;
+        let a = names.intern(b"a")?;
+        let q = names.intern(b"q")?;
+        let mut arguments = TermBuilder::new(alloc);
+        let mut formula = FormulaBuilder::new(alloc);
+        assert!(rt; formula.open_pair()?);
+        assert!(rt; arguments.constant(a)?);
+        assert!(rt; formula.literal(true, p, &arguments)?);
+        assert!(rt; formula.operator(Joiner::Or(Polarity::Negative)));
+        assert!(rt; formula.quantifier(Binder::ForAll)?);
+        assert!(rt; formula.open_pair()?);
+        assert_eq!(rt; (formula.depth(), formula.quantifiers()), (3, 1));
+        arguments.clear();
+        assert!(rt; arguments.bound(0)?);
+        assert!(rt; formula.literal(true, q, &arguments)?);
+        assert!(rt; formula.operator(Joiner::And(Polarity::Positive)));
+        assert!(rt; formula.truth(Polarity::Positive)?);
+        assert!(rt; formula.close());
+        assert!(rt; formula.close());
+        assert!(rt; !formula.is_wanting());
+        let nodes = [
+            Node::Or(Polarity::Negative),
+            literal(p),
+            Node::Inside(Cell::App(a, 0)),
+            Node::ForAll,
+            Node::And(Polarity::Positive),
+            literal(q),
+            Node::Inside(Cell::Bound(0)),
+            Node::True(Polarity::Positive),
+        ];
+        let whole = formula.finish(alloc)?.ok_or("no formula")?;
+        assert_eq!(rt; whole.nodes(), nodes.as_slice());
+        Ok(())
+    }
+
+    #[test]
+    fn what_does_not_fit_is_refused(rt: HostRuntime) -> Result<(), Fail> {
+        let mut formula = FormulaBuilder::new(rt.alloc());
+        assert!(rt; !formula.close());
+        assert!(rt; !formula.operator(Joiner::Implies));
+        assert!(rt; formula.quantifier(Binder::Exists)?);
+        assert!(rt; formula.falsity(Polarity::Positive)?);
+        assert!(rt; !formula.truth(Polarity::Positive)?);
+        assert!(rt; !formula.open_pair()?);
+        assert!(rt; !formula.close());
+        let whole = formula.finish(rt.alloc())?.ok_or("no formula")?;
+        assert_eq!(rt;
+            whole.nodes(),
+            [Node::Exists, Node::False(Polarity::Positive)].as_slice()
+        );
+        let mut open_pair = FormulaBuilder::new(rt.alloc());
+        assert!(rt; open_pair.open_pair()?);
+        assert!(rt; open_pair.falsity(Polarity::Negative)?);
+        assert!(rt; open_pair.finish(rt.alloc())?.is_none());
+        Ok(())
     }
 }

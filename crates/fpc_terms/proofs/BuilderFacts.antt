@@ -5,7 +5,7 @@ use Rattle.std.proofs.Math.Seq.{take-append_seam, drop-append_seam, get_or-appen
 use Rattle.fpc_terms.specs.declared.cell.Cell.{Cell}
 use Rattle.fpc_terms.specs.declared.cell.Cell.TheVariants.{App}
 use Rattle.fpc_terms.specs.Term.{Term, Args, eigen, bound, variable, app, no_args, arg, count, cells_before, all_before, cells_of, terms_from, terms_from-cells_before, term_of, term_of-cells_of, IsOneTerm}
-use Rattle.fpc_terms.specs.Partial.{Frame, Partial, args_onto, args_of_frame, with_term, opened, closed, innermost, only_term, done_cells, flat, positions, turned, terms_of, frame_of, base_of, frames_of, partial_of, Is, IsPartial, IsBefore, StandsAt}
+use Rattle.fpc_terms.specs.Partial.{Frame, Partial, args_onto, arguments_of, with_term, opened, closed, innermost, only_term, done_cells, flat, positions, turned, terms_of, frame_of, base_of, frames_of, partial_of, Is, IsPartial, IsBefore, StandsAt}
 
 mutual
   pub cells_before-append : (t : Term) (xs ys : List Cell) → cells_before t xs ++ ys ≡ cells_before t (xs ++ ys)
@@ -40,8 +40,8 @@ pub count-args_onto : (ts : List Term) (us : Args) → count (args_onto ts us) �
 count-args_onto [] us = omega arith
 count-args_onto (t ∷ ts) us = let h = count-args_onto ts (arg t us) in omega (arith, h)
 
-pub count-args_of_frame : (ts : List Term) → count (args_of_frame ts) ≡ length ts
-count-args_of_frame ts = let h = count-args_onto ts no_args in omega (arith, h)
+pub count-arguments_of : (ts : List Term) → count (arguments_of ts) ≡ length ts
+count-arguments_of ts = let h = count-args_onto ts no_args in omega (arith, h)
 
 pub terms_from-done_cells : (ts : List Term) (cs : List Cell) (us : Args) → terms_from (done_cells ts cs) us ≡ args_onto ts (terms_from cs us)
 terms_from-done_cells [] cs us = refl
@@ -147,12 +147,12 @@ IsBefore-leaf t c cs is n base fs h few one = record {
 
 -- the innermost application stands at the end as a whole term
 pub IsBefore-closed : (cs : List Cell) (is : List ℕ) (i : ℕ) (rest : List ℕ) (n : ℕ) (base : List Term) (f : Frame) (fs : List Frame) → Is cs is n base (f ∷ fs) → is ≡ i ∷ rest →
-    IsBefore (app f.name (args_of_frame f.args)) cs rest n base fs
+    IsBefore (app f.name (arguments_of f.args)) cs rest n base fs
 IsBefore-closed cs is i rest n base f fs h e =
-    let args : count (args_of_frame f.args) ≡ length f.args = count-args_of_frame f.args in
-    let behind : all_before (args_of_frame f.args) [] ≡ done_cells f.args [] = all_before-args_onto f.args no_args [] in
+    let args : count (arguments_of f.args) ≡ length f.args = count-arguments_of f.args in
+    let behind : all_before (arguments_of f.args) [] ≡ done_cells f.args [] = all_before-args_onto f.args no_args [] in
     record {
-      cells = h.cells ∙ sym (ap (λ m. flat base fs (App f.name m ∷ done_cells f.args [])) args) ∙ sym (ap (λ xs. flat base fs (App f.name (count (args_of_frame f.args)) ∷ xs)) behind);
+      cells = h.cells ∙ sym (ap (λ m. flat base fs (App f.name m ∷ done_cells f.args [])) args) ∙ sym (ap (λ xs. flat base fs (App f.name (count (arguments_of f.args)) ∷ xs)) behind);
       places = let same = sym e ∙ h.places in cc;
       whole = h.whole;
       few = h.room.0;
@@ -162,7 +162,7 @@ IsBefore-closed cs is i rest n base f fs h e =
 pub closing : (cs new : List Cell) (is : List ℕ) (i : ℕ) (rest : List ℕ) (n m : ℕ) (base : List Term) (fs : List Frame) → Is cs is n base fs → is ≡ i ∷ rest →
     ((t : Term) (b : List Term) (gs : List Frame) → IsBefore t cs rest n b gs → IsPartial new rest m (with_term t b gs)) → IsPartial new rest m (closed base fs)
 closing cs new is i rest n m base [] h e count_term = let none : is ≡ [] = h.places in cc
-closing cs new is i rest n m base (f ∷ fs) h e count_term = count_term (app f.name (args_of_frame f.args)) base fs (IsBefore-closed cs is i rest n base f fs h e)
+closing cs new is i rest n m base (f ∷ fs) h e count_term = count_term (app f.name (arguments_of f.args)) base fs (IsBefore-closed cs is i rest n base f fs h e)
 
 -- one more open application
 pub Is-opened : (name : ℕ) (cs : List Cell) (is : List ℕ) (n : ℕ) (base : List Term) (fs : List Frame) → Is cs is n base fs → innermost base fs < 255 →
@@ -175,7 +175,7 @@ Is-opened name cs is n base fs h few = record {
 }
 
 -- the cells where nothing is open
-pub cells-closed : (cs : List Cell) (is : List ℕ) (n : ℕ) (base : List Term) (fs : List Frame) → Is cs is n base fs → fs ≡ [] → cs ≡ all_before (args_of_frame base) []
+pub cells-closed : (cs : List Cell) (is : List ℕ) (n : ℕ) (base : List Term) (fs : List Frame) → Is cs is n base fs → fs ≡ [] → cs ≡ all_before (arguments_of base) []
 cells-closed cs is n base [] h e = h.cells ∙ sym (all_before-args_onto base no_args [])
 cells-closed cs is n base (f ∷ fs) h e = cc
 

@@ -30,9 +30,9 @@ abbrev pub args_onto : List Term → Args → Args
 args_onto [] us = us
 args_onto (t ∷ ts) us = args_onto ts (arg t us)
 
--- the terms, the last one first
-abbrev pub args_of_frame : List Term → Args
-args_of_frame ts = args_onto ts no_args
+-- terms, the last one first, as arguments
+abbrev pub arguments_of : List Term → Args
+arguments_of ts = args_onto ts no_args
 
 -- nothing is built yet
 abbrev pub nothing : Partial
@@ -50,7 +50,7 @@ opened name base fs = record { base = base; frames = record { name = name; args 
 -- the innermost application is whole
 abbrev pub closed : List Term → List Frame → Partial
 closed base [] = record { base = base; frames = [] }
-closed base (f ∷ fs) = with_term (app f.name (args_of_frame f.args)) base fs
+closed base (f ∷ fs) = with_term (app f.name (arguments_of f.args)) base fs
 
 -- how many whole terms stand innermost
 abbrev pub innermost : List Term → List Frame → ℕ

@@ -3,7 +3,7 @@ ghost use Rattle.std.specs.Prelude.{◌≡◌, ℕ, ◌<◌, ◌+◌, ◌++◌, 
 ghost use Rattle.fpc_terms.specs.Term.{Term, eigen, bound, variable, app, no_args, count, cells_of, all_before, cells_before};
 ghost use Rattle.fpc_terms.specs.declared.cell.Cell.{Cell};
 ghost use Rattle.fpc_terms.specs.declared.cell.Cell.TheVariants.{App};
-ghost use Rattle.fpc_terms.specs.Partial.{Frame, Partial, args_of_frame, nothing, with_term, opened, closed, innermost, only_term, flat, leaf_term, IsBefore, IsPartial, StandsAt};
+ghost use Rattle.fpc_terms.specs.Partial.{Frame, Partial, arguments_of, nothing, with_term, opened, closed, innermost, only_term, flat, leaf_term, IsBefore, IsPartial, StandsAt};
 
 use fpc_base::outside::OutOfMemory;
 use crate::cell::Cell;
@@ -255,7 +255,7 @@ impl TermBuilder {
     /// How many whole terms stand in no application.
     pub fn count(&self) -> u8
         ensures count { result ≡ length self.now.base }
-        ensures arguments { result ≡ count (args_of_frame self.now.base) }
+        ensures arguments { result ≡ count (arguments_of self.now.base) }
     {
         self.whole
     }
@@ -263,7 +263,7 @@ impl TermBuilder {
     /// The cells so far, in prefix order; an open application has the number of its arguments so far.
     pub fn cells(&self) -> &[Cell]
         ensures cells { result.now ≡ flat self.now.base self.now.frames [] }
-        ensures whole { self.now.frames ≡ [] → result.now ≡ all_before (args_of_frame self.now.base) [] }
+        ensures whole { self.now.frames ≡ [] → result.now ≡ all_before (arguments_of self.now.base) [] }
     {
         self.cells.as_slice()
     }
@@ -307,7 +307,12 @@ mod tests {
         terms.close();
         assert!(rt; terms.is_closed());
         assert_eq!(rt; terms.count(), 1);
-        let cells = [Cell::App(f, 2), Cell::App(a, 0), Cell::App(g, 1), Cell::App(b, 0)];
+        let cells = [
+            Cell::App(f, 2),
+            Cell::App(a, 0),
+            Cell::App(g, 1),
+            Cell::App(b, 0),
+        ];
         assert_eq!(rt; terms.cells(), cells.as_slice());
         let term = terms.finish(rt.alloc())?.ok_or("no term")?;
         assert_eq!(rt; term.cells(), cells.as_slice());
@@ -321,7 +326,10 @@ mod tests {
         assert!(rt; terms.bound(1)?);
         assert!(rt; terms.variable(2)?);
         assert_eq!(rt; terms.count(), 3);
-        assert_eq!(rt; terms.cells(), [Cell::Eigen(3), Cell::Bound(1), Cell::Var(2)].as_slice());
+        assert_eq!(rt;
+            terms.cells(),
+            [Cell::Eigen(3), Cell::Bound(1), Cell::Var(2)].as_slice()
+        );
         assert!(rt; terms.finish(rt.alloc())?.is_none());
         terms.clear();
         assert_eq!(rt; terms.count(), 0);

@@ -5,5 +5,5 @@ use Rattle.formula_builder.proofs.builder.Surroundings.leave_quantifiers.Given a
 abbrev pub invariant-loop : goal.invariant-loop
 invariant-loop l = unders_left l.self ≡ unders_left l.fn.self
 
-abbrev pub measure-loop : goal.measure-loop
-measure-loop l = length l.self
+abbrev pub decreases-loop : goal.decreases-loop
+decreases-loop l = length l.self
