@@ -429,21 +429,20 @@ mod tests {
         let q = names.intern(b"q")?;
         let mut arguments = TermBuilder::new(alloc);
         let mut formula = FormulaBuilder::new(alloc);
-        assert!(rt; formula.open_pair()?);
-        assert!(rt; arguments.constant(a)?);
-        assert!(rt; formula.literal(true, p, &arguments)?);
-        assert!(rt; formula.operator(Joiner::Or(Polarity::Negative)));
-        assert!(rt; formula.quantifier(Binder::ForAll)?);
-        assert!(rt; formula.open_pair()?);
+        formula.open_pair()?;
+        arguments.constant(a)?;
+        formula.literal(true, p, &arguments)?;
+        formula.operator(Joiner::Or(Polarity::Negative));
+        formula.quantifier(Binder::ForAll)?;
+        formula.open_pair()?;
         assert_eq!(rt; (formula.depth(), formula.quantifiers()), (3, 1));
         arguments.clear();
-        assert!(rt; arguments.bound(0)?);
-        assert!(rt; formula.literal(true, q, &arguments)?);
-        assert!(rt; formula.operator(Joiner::And(Polarity::Positive)));
-        assert!(rt; formula.truth(Polarity::Positive)?);
-        assert!(rt; formula.close());
-        assert!(rt; formula.close());
-        assert!(rt; !formula.is_wanting());
+        arguments.bound(0)?;
+        formula.literal(true, q, &arguments)?;
+        formula.operator(Joiner::And(Polarity::Positive));
+        formula.truth(Polarity::Positive)?;
+        formula.close();
+        formula.close();
         let nodes = [
             Node::Or(Polarity::Negative),
             literal(p),
@@ -462,22 +461,13 @@ mod tests {
     #[test]
     fn what_does_not_fit_is_refused(rt: HostRuntime) -> Result<(), Fail> {
         let mut formula = FormulaBuilder::new(rt.alloc());
-        assert!(rt; !formula.close());
+        assert!(rt; formula.is_wanting());
         assert!(rt; !formula.operator(Joiner::Implies));
-        assert!(rt; formula.quantifier(Binder::Exists)?);
+        formula.open_pair()?;
         assert!(rt; formula.falsity(Polarity::Positive)?);
         assert!(rt; !formula.truth(Polarity::Positive)?);
-        assert!(rt; !formula.open_pair()?);
         assert!(rt; !formula.close());
-        let whole = formula.finish(rt.alloc())?.ok_or("no formula")?;
-        assert_eq!(rt;
-            whole.nodes(),
-            [Node::Exists, Node::False(Polarity::Positive)].as_slice()
-        );
-        let mut open_pair = FormulaBuilder::new(rt.alloc());
-        assert!(rt; open_pair.open_pair()?);
-        assert!(rt; open_pair.falsity(Polarity::Negative)?);
-        assert!(rt; open_pair.finish(rt.alloc())?.is_none());
+        assert!(rt; formula.finish(rt.alloc())?.is_none());
         Ok(())
     }
 }

@@ -5,7 +5,7 @@ use Rattle.std.proofs.Math.Seq.{take-append_seam, drop-append_seam, get_or-appen
 use Rattle.fpc_terms.specs.declared.cell.Cell.{Cell}
 use Rattle.fpc_terms.specs.declared.cell.Cell.TheVariants.{App}
 use Rattle.fpc_terms.specs.Term.{Term, Args, eigen, bound, variable, app, no_args, arg, count, cells_before, all_before, cells_of, terms_from, terms_from-cells_before, term_of, term_of-cells_of, IsOneTerm}
-use Rattle.fpc_terms.specs.Partial.{Frame, Partial, args_onto, arguments_of, with_term, opened, closed, innermost, only_term, done_cells, flat, positions, turned, terms_of, frame_of, base_of, frames_of, partial_of, Is, IsPartial, IsBefore, StandsAt}
+use Rattle.fpc_terms.specs.Partial.{Frame, frame, Partial, args_onto, arguments_of, with_term, opened, closed, innermost, only_term, done_cells, flat, positions, turned, terms_of, frame_of, base_of, frames_of, partial_of, Is, IsPartial, IsBefore, StandsAt}
 
 mutual
   pub cells_before-append : (t : Term) (xs ys : List Cell) → cells_before t xs ++ ys ≡ cells_before t (xs ++ ys)
@@ -73,7 +73,7 @@ base_of-flat base (f ∷ fs) = ap (λ cs. base_of cs (positions base fs)) (take-
 pub frame_of-flat : (base : List Term) (f : Frame) (fs : List Frame) → frame_of (drop (length (flat base fs [])) (flat base (f ∷ fs) [])) ≡ f
 frame_of-flat base f fs =
     ap frame_of (drop-flat base f fs [])
-    ∙ ap (λ (ts : List Term). let made : Frame = record { name = f.name; args = ts } in made) (terms_of-done_cells f.args)
+    ∙ ap (frame f.name) (terms_of-done_cells f.args)
 
 pub frames_of-flat : (base : List Term) (fs : List Frame) → frames_of (flat base fs []) (positions base fs) ≡ fs
 frames_of-flat base [] = refl

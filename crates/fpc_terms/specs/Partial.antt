@@ -10,10 +10,13 @@ pub record Frame : Type 0 where
   pub name : ℕ
   pub args : List Term
 
+abbrev pub frame : ℕ → List Term → Frame
+frame name ts = record { name = name; args = ts }
+
 -- an application is stored as the pair of its fields
 abbrev pub frame_code : Coded Frame
 frame_code =
-    code_by (ℕ × List Term) (coded× coded_ℕ (coded_list term_code)) (λ f. (f.name, f.args)) (λ p. record { name = p.0; args = p.1 }) (λ _. refl)
+    code_by (ℕ × List Term) (coded× coded_ℕ (coded_list term_code)) (λ f. (f.name, f.args)) (λ p. frame p.0 p.1) (λ _. refl)
 
 -- whole terms, the last one first, and the applications that are open, the innermost first
 pub record Partial : Type 0 where
@@ -41,11 +44,11 @@ nothing = record { base = []; frames = [] }
 -- one more whole term
 abbrev pub with_term : Term → List Term → List Frame → Partial
 with_term t base [] = record { base = t ∷ base; frames = [] }
-with_term t base (f ∷ fs) = record { base = base; frames = record { name = f.name; args = t ∷ f.args } ∷ fs }
+with_term t base (f ∷ fs) = record { base = base; frames = frame f.name (t ∷ f.args) ∷ fs }
 
 -- one more open application
 abbrev pub opened : ℕ → List Term → List Frame → Partial
-opened name base fs = record { base = base; frames = record { name = name; args = [] } ∷ fs }
+opened name base fs = record { base = base; frames = frame name [] ∷ fs }
 
 -- the innermost application is whole
 abbrev pub closed : List Term → List Frame → Partial
@@ -88,8 +91,8 @@ terms_of cs = turned (terms_from cs no_args) []
 
 -- the application that the cells begin with
 abbrev pub frame_of : List Cell → Frame
-frame_of (App f n ∷ cs) = record { name = f; args = terms_of cs }
-frame_of _ = record { name = 0; args = [] }
+frame_of (App f n ∷ cs) = frame f (terms_of cs)
+frame_of _ = frame 0 []
 
 -- the whole terms of cells, among which the open applications stand at these places
 abbrev pub base_of : List Cell → List ℕ → List Term

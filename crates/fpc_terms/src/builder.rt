@@ -296,25 +296,20 @@ mod tests {
         let g = names.intern(b"g")?;
         let b = names.intern(b"b")?;
         let mut terms = TermBuilder::new(rt.alloc());
-        assert!(rt; terms.has_room());
-        assert!(rt; terms.open_application(f)?);
-        assert!(rt; terms.constant(a)?);
+        terms.open_application(f)?;
+        terms.constant(a)?;
+        terms.open_application(g)?;
+        terms.constant(b)?;
+        terms.close();
         assert!(rt; !terms.is_closed());
-        assert!(rt; terms.open_application(g)?);
-        assert!(rt; terms.constant(b)?);
         terms.close();
-        assert!(rt; terms.finish(rt.alloc())?.is_none());
-        terms.close();
-        assert!(rt; terms.is_closed());
-        assert_eq!(rt; terms.count(), 1);
+        let term = terms.finish(rt.alloc())?.ok_or("no term")?;
         let cells = [
             Cell::App(f, 2),
             Cell::App(a, 0),
             Cell::App(g, 1),
             Cell::App(b, 0),
         ];
-        assert_eq!(rt; terms.cells(), cells.as_slice());
-        let term = terms.finish(rt.alloc())?.ok_or("no term")?;
         assert_eq!(rt; term.cells(), cells.as_slice());
         Ok(())
     }
@@ -322,17 +317,15 @@ mod tests {
     #[test]
     fn terms_stand_one_after_another(rt: HostRuntime) -> Result<(), Fail> {
         let mut terms = TermBuilder::new(rt.alloc());
-        assert!(rt; terms.eigen(3)?);
-        assert!(rt; terms.bound(1)?);
+        terms.eigen(3)?;
+        terms.bound(1)?;
         assert!(rt; terms.variable(2)?);
+        assert!(rt; terms.has_room());
         assert_eq!(rt; terms.count(), 3);
-        assert_eq!(rt;
-            terms.cells(),
-            [Cell::Eigen(3), Cell::Bound(1), Cell::Var(2)].as_slice()
-        );
+        let cells = [Cell::Eigen(3), Cell::Bound(1), Cell::Var(2)];
+        assert_eq!(rt; terms.cells(), cells.as_slice());
         assert!(rt; terms.finish(rt.alloc())?.is_none());
         terms.clear();
-        assert_eq!(rt; terms.count(), 0);
         assert!(rt; terms.cells().is_empty());
         Ok(())
     }
