@@ -8,7 +8,7 @@ use Rattle.fpc_base.specs.declared.refusal.TokenRefusal.{TokenRefusal}
 use Rattle.fpc_base.specs.declared.tokens.lexeme.Sign.TheVariants.{OpenParenthesis, CloseParenthesis, Comma}
 use Rattle.fpc_base.specs.Lexeme.{Lexeme, a_name, a_variable, a_sign}
 use Rattle.fpc_terms.specs.Term.{Term, Args, app, no_args, arg}
-use Rattle.fpc_terms.specs.Partial.{Frame, Partial, nothing, with_term, opened, closed, innermost, turned, args_onto, args_of_frame, only_term}
+use Rattle.fpc_terms.specs.Partial.{Frame, Partial, nothing, with_term, opened, closed, innermost, turned, args_onto, arguments_of, only_term}
 use Rattle.fpc_terms.specs.Written.{WrittenTerm, WrittenArgs, variable_word, application, no_words, words, term_meant, args_meant}
 use Rattle.fpc_terms.specs.Spot.{Spot, alone, in_arguments, in_term}
 use Rattle.fpc_terms.specs.Machine.{TermState, wants, named, has, ended, stuck, step, limited, within, behind, args_with, is_full, whole_of, is_final}
@@ -29,7 +29,7 @@ turned-args_onto : (ts : List Term) (us : Args) → turned (args_onto ts us) [] 
 turned-args_onto [] us = refl
 turned-args_onto (t ∷ ts) us = turned-args_onto ts (arg t us)
 
-pub built-arguments : (us : Args) (ts : List Term) → args_of_frame (turned us ts) ≡ args_onto ts us
+pub built-arguments : (us : Args) (ts : List Term) → arguments_of (turned us ts) ≡ args_onto ts us
 built-arguments no_args ts = refl
 built-arguments (arg u us) ts = built-arguments us (u ∷ ts)
 

@@ -4,7 +4,7 @@ ghost use Rattle.fpc_base.specs.Lexeme.{lexeme_as, a_variable, a_sign};
 ghost use Rattle.fpc_base.specs.declared.tokens.lexeme.Sign.TheVariants.{OpenParenthesis, CloseParenthesis, Comma};
 ghost use Rattle.fpc_terms.specs.Name.{Agrees, Grows};
 ghost use Rattle.fpc_terms.specs.Term.{Term, all_before, count, cells_of};
-ghost use Rattle.fpc_terms.specs.Partial.{leaf_term, args_of_frame};
+ghost use Rattle.fpc_terms.specs.Partial.{leaf_term, arguments_of};
 ghost use Rattle.fpc_terms.specs.Written.{WrittenTerm, WrittenArgs, term_meant, args_meant};
 ghost use Rattle.fpc_terms.specs.Spot.{Spot, alone, in_arguments};
 ghost use Rattle.fpc_terms.specs.Machine.{TermState, wants, named, has, ended, limited, whole_of, is_final};
@@ -270,7 +270,7 @@ impl TermReader {
     /// The terms that were built: behind the last argument, the arguments.
     pub fn terms(&self) -> &TermBuilder
         ensures { (number : List ℕ → ℕ) (leaf : List ℕ → Term) (args : WrittenArgs) → Holds number leaf (ended args) self.now
-            → (result.now.frames ≡ []) × (args_of_frame result.now.base ≡ args_meant number leaf args) }
+            → (result.now.frames ≡ []) × (arguments_of result.now.base ≡ args_meant number leaf args) }
     {
         &self.terms
     }

@@ -5,3 +5,15 @@ pub mod PartFacts
 pub mod OpenedFacts
 pub mod EigenFacts
 pub mod PrintFacts
+pub mod UnfinishedFacts
+pub mod States
+pub mod Sound
+pub mod Complete
+pub mod Viable
+pub mod FormulaLaws
+pub mod Limits
+pub mod ReadingLaws
+pub mod FormulaReading
+pub mod ProblemLaws
+pub mod ProblemLimits
+pub mod ProblemReading

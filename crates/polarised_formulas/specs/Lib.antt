@@ -5,3 +5,7 @@ pub mod Opened
 pub mod Step
 pub mod Text
 pub mod Printing
+pub mod Unfinished
+pub mod Written
+pub mod Place
+pub mod Machine

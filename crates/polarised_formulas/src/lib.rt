@@ -1,6 +1,8 @@
 //! Formulas with polarity in both logics, the steps of proofs, and problems.
 #![tactic(auto)]
 
+pub mod builder;
+pub mod connective;
 pub mod dual;
 pub mod formula;
 pub mod list;

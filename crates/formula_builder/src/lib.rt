@@ -1,6 +1,0 @@
-//! Formulas that are built from the left.
-#![tactic(auto)]
-
-pub mod builder;
-
-pub use builder::{Binder, FormulaBuilder, Joiner};

@@ -1,4 +1,0 @@
-//! The grammar of formulas and problems.
-#![tactic(auto)]
-
-pub mod connective;
