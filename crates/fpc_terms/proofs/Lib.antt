@@ -8,3 +8,5 @@ pub mod TermReading
 pub mod BuilderFacts
 pub mod HoldingFacts
 pub mod PrintFacts
+pub mod ReadFacts
+pub mod TokenNames

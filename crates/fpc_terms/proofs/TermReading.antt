@@ -302,3 +302,10 @@ module _ (known : List ℕ → Bool) (most : Option ℕ) (earlier : List (List �
   IsAt-ends n items rest s vars w c at i h o =
       i.read w (says c at ∷ rest) (reading.ReadsFront.ends (whole-before i.before s w i.ran h)
         (λ b. rw (run-one i.before c s i.ran ∙ closed-behind s w c h o) at (begins-live (i.before ++ c ∷ []) b)))
+
+  -- the variables so far are those of the term
+  pub IsAt-variables : (n : ℕ) (items rest : List Item) (s : TermState) (vars : List (List ℕ)) (w : WrittenTerm) → IsAt n items rest s vars → whole_of s ≡ Some w
+      → vars ≡ variables_in (term_tokens w []) earlier
+  IsAt-variables n items rest s vars w i h =
+      let t : IsTerm known i.before w = whole-before i.before s w i.ran h in
+      sym i.variables ∙ ap (λ (ts : List Lexeme). variables_in ts earlier) t.spelled

@@ -1,5 +1,5 @@
 -- A machine that reads the tokens of a term, one after another, and keeps all that it read.
-use Rattle.std.specs.Prelude.{ℕ, Bool, true, false, not, ◌&&◌, if◌then◌else◌, List, [], ◌∷◌, length, Option, Some, None, Result, Ok, Err, nat_eq, nat_le}
+use Rattle.std.specs.Prelude.{ℕ, Bool, true, false, not, ◌&&◌, if◌then◌else◌, List, [], ◌∷◌, length, Option, Some, None, Result, Ok, Err, nat_eq, nat_le, is_some}
 use Rattle.fpc_base.specs.declared.refusal.Code.{Code}
 use Rattle.fpc_base.specs.declared.refusal.Code.TheVariants.{Unexpected, ManyArguments, ManyVariables}
 use Rattle.fpc_base.specs.Tokens.{is_one_of}
@@ -82,3 +82,7 @@ is_final _ = false
 abbrev pub is_open : Lexeme → Bool
 is_open (a_sign OpenParenthesis) = true
 is_open _ = false
+
+-- a whole term doesn't go on with the token
+abbrev pub ends_before : TermState → Lexeme → Bool
+ends_before s c = is_some (whole_of s) && not (is_open c)
