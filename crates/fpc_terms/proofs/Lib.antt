@@ -10,3 +10,4 @@ pub mod HoldingFacts
 pub mod PrintFacts
 pub mod ReadFacts
 pub mod TokenNames
+pub mod NamesBelow

@@ -3,11 +3,15 @@ ghost use Rattle.std.specs.Prelude.{◌≡◌, ◌∷◌, [], ℕ, List, IfOk, I
 ghost use Rattle.fpc_base.specs.Lexeme.{lexeme_as, items_left, a_variable};
 ghost use Rattle.fpc_base.specs.Tokens.{source_of};
 ghost use Rattle.fpc_terms.specs.Name.{Grows, AreDifferent, with_text};
+ghost use Rattle.fpc_terms.specs.Printing.{HasNamesBelow};
 ghost use Rattle.fpc_terms.specs.Term.{Term};
 ghost use Rattle.fpc_terms.specs.Written.{variables_in};
 ghost use Rattle.fpc_terms.specs.Machine.{TermState, limited, is_too_many, is_open, ends_before};
 ghost use Rattle.fpc_terms.specs.Holding.{IsNamed, is_variable, Holds};
 ghost use Rattle.fpc_terms.specs.ReadTerm.{any_variable, TermIsRead, IsTermRefusal, HoldsFor, TakesFor, Leads};
+
+#[cfg(test)]
+mod tests;
 
 use crate::names::Names;
 use crate::reader::TermReader;
@@ -25,11 +29,13 @@ pub fn read_term(alloc: Global, names: &mut Names, tokens: &mut Tokens<'_>, vars
     ensures ok { IfOk result (TermIsRead most (items_left tokens.old) (items_left tokens.new) names.new vars.old vars.new) }
     ensures err { IfErr result (IsTermRefusal most (items_left tokens.old) vars.old (length (source_of tokens.old))) }
     ensures source { source_of tokens.new ≡ source_of tokens.old }
+    ensures named { IfOk result (HasNamesBelow (length names.new)) }
     ensures names { Grows names.old names.new }
     ensures variables { Grows vars.old vars.new }
 {
     let (mut reader, left) = read_whole(alloc, names, *tokens, vars, most)?;
     *tokens = left;
+    names.distinct();
     vars.distinct();
     match reader.finish(alloc) {
         Ok(Some(term)) => Ok(term),
