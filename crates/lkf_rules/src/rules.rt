@@ -1,10 +1,8 @@
 //! The rules of LKF: the premises that a step names at a sequent.
-ghost use Rattle.std.specs.Prelude.{◌≡◌, ◌↔◌, ◌<◌, ◌-◌, ◌^◌, Some, None, IfOk, Err};
-ghost use Rattle.polarised_formulas.specs.declared.logic.Logic.TheVariants.{Lkf};
-ghost use Rattle.polarised_formulas.specs.Step.{IsProperStep};
+ghost use Rattle.std.specs.Prelude.{◌≡◌, ◌<◌, ◌-◌, ◌^◌, Some, None, IfOk, Err};
 ghost use Rattle.lkf_rules.specs.Sequent.{root_of};
 ghost use Rattle.lkf_rules.specs.Premises.{premises_of};
-ghost use Rattle.lkf_rules.specs.Values.{levelled, premise_list, Gives};
+ghost use Rattle.lkf_rules.specs.Values.{levelled, premise_list, Answers, MayRunOut};
 
 mod choice;
 mod negative;
@@ -35,10 +33,10 @@ pub fn root(alloc: Global, goal: &Formula) -> Result<Sequent, OutOfMemory>
 }
 
 /// The answer to a step at a sequent, by the phase and by what is left to work on.
+#[tactic(auto, using(crate::proofs::StepFacts::answer_facts))]
 fn answer_to(alloc: Global, sequent: &Sequent, step: &Step) -> Result<Premises, StepRefusal>
     requires level { (levelled sequent.now).0 < 2 ^ 64 - 1 }
-    requires step { IsProperStep Lkf step.now }
-    ensures { Gives result (premises_of step.now (levelled sequent.now).0 (levelled sequent.now).1) }
+    ensures { Answers step.now result (premises_of step.now (levelled sequent.now).0 (levelled sequent.now).1) }
 {
     match sequent {
         Sequent::Up {
@@ -63,9 +61,9 @@ fn answer_to(alloc: Global, sequent: &Sequent, step: &Step) -> Result<Premises, 
 #[tactic(auto, using(crate::proofs::StepFacts::answer_facts))]
 pub fn premises(alloc: Global, sequent: &Sequent, step: &Step) -> Result<Premises, StepRefusal>
     requires level { (levelled sequent.now).0 < 2 ^ 64 - 1 }
-    requires step { IsProperStep Lkf step.now }
     ensures fits { IfOk result (λ p. premises_of step.now (levelled sequent.now).0 (levelled sequent.now).1 ≡ Some (premise_list p)) }
-    ensures unfit { result ≡ Err StepRefusal.DoesNotFit ↔ premises_of step.now (levelled sequent.now).0 (levelled sequent.now).1 ≡ None }
+    ensures unfit { result ≡ Err StepRefusal.DoesNotFit → premises_of step.now (levelled sequent.now).0 (levelled sequent.now).1 ≡ None }
+    ensures memory { result ≡ Err StepRefusal.OutOfMemory → MayRunOut step.now (premises_of step.now (levelled sequent.now).0 (levelled sequent.now).1) }
 {
     answer_to(alloc, sequent, step)
 }

@@ -1,14 +1,11 @@
 //! The steps of the positive phase, on the formula under focus.
 ghost use Rattle.std.specs.Prelude.{◌≡◌, ℕ, List, slice_get};
-ghost use Rattle.fpc_terms.specs.Term.{IsProperTerm, Always};
-ghost use Rattle.polarised_formulas.specs.declared.logic.Logic.TheVariants.{Lkf};
-ghost use Rattle.polarised_formulas.specs.Step.{IsProperStep};
 ghost use Rattle.polarised_formulas.specs.Formula.{Formula};
 ghost use Rattle.lkf_rules.specs.Premises.{focused, closed_with};
 ghost use Rattle.lkf_rules.specs.Values.{Gives};
 
 use crate::rules::outcome::{Premises, StepRefusal, one_down, one_up, only, two_down};
-use fpc_terms::scope::has_eigen_at_least;
+use crate::scope::is_in_scope;
 use fpc_terms::term::TermBuf;
 use polarised_formulas::dual::is_dual;
 use polarised_formulas::formula::Formula;
@@ -80,10 +77,9 @@ fn some(
     focus: &Formula,
     term: &TermBuf,
 ) -> Result<Premises, StepRefusal>
-    requires { IsProperTerm Always term.now }
     ensures { Gives result (focused (Step.Exists term.now) level stored.now focus.now) }
 {
-    if has_eigen_at_least(term, level) {
+    if !is_in_scope(term, level) {
         return Err(StepRefusal::DoesNotFit);
     }
     match outermost(focus) {
@@ -138,7 +134,6 @@ pub(crate) fn focused_premises(
     focus: &Formula,
     step: &Step,
 ) -> Result<Premises, StepRefusal>
-    requires { IsProperStep Lkf step.now }
     ensures { Gives result (focused step.now level stored.now focus.now) }
 {
     match step {
