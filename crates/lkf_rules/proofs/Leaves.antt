@@ -2,7 +2,7 @@
 use Rattle.std.proofs.Common.{◌≡◌, ℕ, suc, ◌<◌, Bool, true, false, nat_eq, if◌then◌else◌, refl, arith}
 use Rattle.std.proofs.lemmas.Bool.Decides.{nat_tests}
 use Rattle.std.proofs.lemmas.Bool.{and_parts}
-use Rattle.fpc_terms.specs.Term.{Term, eigen, bound, variable, app, Args, no_args, arg, Each, EachArg, Never, Always, IsProperTerm, InScope, open_term, open_args, same_term, same_args}
+use Rattle.fpc_terms.specs.Term.{Term, eigen, bound, variable, app, Args, no_args, arg, Each, EachArg, Never, IsProperTerm, InScope, open_term, open_args, same_term, same_args}
 use Rattle.polarised_formulas.specs.Formula.{Formula, truth, falsity, atom, conj, disj, implies, for_all, exists, dual_of, open_at, EachInside, Tied, IsLkf}
 use Rattle.lkf_rules.specs.Scope.{is_scoped, are_scoped, may_be_cut}
 

@@ -1,5 +1,5 @@
 -- What the answer to a step says, and what may be put in or cut.
-use Rattle.std.proofs.Common.{◌≡◌, ℕ, List, refl}
+use Rattle.std.proofs.Common.{◌≡◌, ◌≢◌, ◌↔◌, ℕ, List, refl}
 use Rattle.std.specs.Prelude.{true, Option, Some, None, Result, Ok, Err, IfOk}
 use Rattle.std.specs.Option.{IsSome}
 use Rattle.fpc_terms.specs.Term.{Term, Each, Always, Never}
@@ -41,10 +41,18 @@ pub Answers-fits : (step : Step) (r : Result Premises StepRefusal) (o : Option (
 Answers-fits step (Ok p) o h = h
 Answers-fits step (Err e) o h = tt
 
-pub Answers-unfit : (step : Step) (r : Result Premises StepRefusal) (o : Option (List Levelled)) → Answers step r o → r ≡ Err DoesNotFit → o ≡ None
-Answers-unfit step (Ok p) o h e = cc
-Answers-unfit step (Err DoesNotFit) o h e = h
-Answers-unfit step (Err OutOfMemory) o h e = cc
+Answers-unfit_forth : (step : Step) (r : Result Premises StepRefusal) (o : Option (List Levelled)) → Answers step r o → r ≡ Err DoesNotFit → (o ≡ None) × (r ≢ Err OutOfMemory)
+Answers-unfit_forth step (Ok p) o h e = cc
+Answers-unfit_forth step (Err DoesNotFit) o h e = (h, λ x. cc)
+Answers-unfit_forth step (Err OutOfMemory) o h e = cc
+
+Answers-unfit_back : (step : Step) (r : Result Premises StepRefusal) (o : Option (List Levelled)) → Answers step r o → (o ≡ None) × (r ≢ Err OutOfMemory) → r ≡ Err DoesNotFit
+Answers-unfit_back step (Ok p) o h e = let none = e.0 in cc
+Answers-unfit_back step (Err DoesNotFit) o h e = refl
+Answers-unfit_back step (Err OutOfMemory) o h e = absurd (e.1 refl)
+
+pub Answers-unfit : (step : Step) (r : Result Premises StepRefusal) (o : Option (List Levelled)) → Answers step r o → r ≡ Err DoesNotFit ↔ (o ≡ None) × (r ≢ Err OutOfMemory)
+Answers-unfit step r o h = (Answers-unfit_forth step r o h, Answers-unfit_back step r o h)
 
 pub Answers-memory : (step : Step) (r : Result Premises StepRefusal) (o : Option (List Levelled)) → Answers step r o → r ≡ Err OutOfMemory → MayRunOut step o
 Answers-memory step (Ok p) o h e = cc

@@ -1,4 +1,4 @@
-use Rattle.std.proofs.Common.{◌≡◌, arith}
+use Rattle.std.proofs.Common.{arith}
 use Rattle.lkf_rules.proofs.ScopeNodes.{may_be_cut-passed, may_be_cut-stopped}
 use Rattle.lkf_rules.proofs.scope.may_be_cut.Goals as goal
 
