@@ -12,14 +12,14 @@ mod positive;
 pub mod storable;
 
 use crate::sequent::Sequent;
-use choice::chosen_premises;
+use choice::{cut, decide};
 use fpc_base::outside::OutOfMemory;
-use negative::worked_premises;
+use negative::{and_negative, every, false_negative, or_negative, store, true_negative};
 use outcome::{Premises, StepRefusal, only};
 use polarised_formulas::formula::Formula;
 use polarised_formulas::list::Formulas;
 use polarised_formulas::step::Step;
-use positive::focused_premises;
+use positive::{and_positive, initial, or_positive, release, some, true_positive};
 use std::alloc::Global;
 
 /// The root sequent of a goal, at level 0: nothing is stored, and the goal is worked on. Time and memory are linear in the goal's size.
@@ -33,7 +33,7 @@ pub fn root(alloc: Global, goal: &Formula) -> Result<Sequent, OutOfMemory>
     })
 }
 
-/// The answer to a step at a sequent, by the phase and by what is left to work on.
+/// The table of the rules. S are the stored formulas, G those that are worked on behind the first one.
 #[tactic(auto, using(crate::proofs::StepFacts::answer_facts))]
 fn answer_to(alloc: Global, sequent: &Sequent, step: &Step) -> Result<Premises, StepRefusal>
     requires level { (levelled sequent.now).0 < 2 ^ 64 - 1 }
@@ -44,15 +44,30 @@ fn answer_to(alloc: Global, sequent: &Sequent, step: &Step) -> Result<Premises, 
             level,
             stored,
             work,
-        } => match work.items() {
-            [first, rest @ ..] => worked_premises(alloc, *level, stored, first, rest, step),
-            [] => chosen_premises(alloc, *level, stored, step),
+        } => match (step, work.items()) {
+            (Step::TrueN, [first, ..]) => true_negative(first),
+            (Step::FalseN, [first, rest @ ..]) => false_negative(alloc, *level, stored, first, rest),
+            (Step::OrN, [first, rest @ ..]) => or_negative(alloc, *level, stored, first, rest),
+            (Step::AndN, [first, rest @ ..]) => and_negative(alloc, *level, stored, first, rest),
+            (Step::Every, [first, rest @ ..]) => every(alloc, *level, stored, first, rest),
+            (Step::Store, [first, rest @ ..]) => store(alloc, *level, stored, first, rest),
+            (Step::Decide(k), []) => decide(*level, stored, *k),
+            (Step::Cut(formula), []) => cut(alloc, *level, stored, formula),
+            _ => Err(StepRefusal::DoesNotFit),
         },
         Sequent::Down {
             level,
             stored,
             focus,
-        } => focused_premises(alloc, *level, stored, focus, step),
+        } => match step {
+            Step::TrueP => true_positive(focus),
+            Step::AndP => and_positive(alloc, *level, stored, focus),
+            Step::OrP(side) => or_positive(alloc, *level, stored, focus, *side),
+            Step::Exists(term) => some(alloc, *level, stored, focus, term),
+            Step::Release => release(alloc, *level, stored, focus),
+            Step::Init(k) => initial(stored, focus, *k),
+            _ => Err(StepRefusal::DoesNotFit),
+        },
     }
 }
 

@@ -14,7 +14,7 @@ use polarised_formulas::step::Step;
 use std::alloc::Global;
 
 /// The step `decide k`: the positive formula at place k of the stored ones comes under focus.
-fn decide(level: u64, stored: &Formulas, k: u64) -> Result<Premises, StepRefusal>
+pub(crate) fn decide(level: u64, stored: &Formulas, k: u64) -> Result<Premises, StepRefusal>
     ensures { Gives result (decided level stored.now (slice_get stored.now k)) }
 {
     if k >= stored.len() as u64 {
@@ -29,7 +29,7 @@ fn decide(level: u64, stored: &Formulas, k: u64) -> Result<Premises, StepRefusal
 
 /// The step `cut B`: a formula of LKF that is in scope at the level is worked on in the first premise, and its dual in the second one.
 #[tactic(auto, using(crate::proofs::StepFacts::cut_facts))]
-fn cut(
+pub(crate) fn cut(
     alloc: Global,
     level: u64,
     stored: &Formulas,
@@ -43,21 +43,4 @@ fn cut(
     let first = only(alloc, formula.copy()?)?;
     let second = only(alloc, dual(alloc, formula)?)?;
     two_up(level, stored, first, second)
-}
-
-/// The premises of a step at a sequent with nothing left to work on.
-#[tactic(auto, using(crate::proofs::StepFacts::answer_facts))]
-pub(crate) fn chosen_premises(
-    alloc: Global,
-    level: u64,
-    stored: &Formulas,
-    step: &Step,
-) -> Result<Premises, StepRefusal>
-    ensures { Answers step.now result (chosen step.now level stored.now) }
-{
-    match step {
-        Step::Decide(k) => decide(level, stored, *k),
-        Step::Cut(formula) => cut(alloc, level, stored, formula),
-        _ => Err(StepRefusal::DoesNotFit),
-    }
 }

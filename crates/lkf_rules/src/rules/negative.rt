@@ -19,7 +19,7 @@ use polarised_formulas::step::Step;
 use std::alloc::Global;
 
 /// The step `tt-`: the negative `tt` closes the branch.
-fn true_negative(first: &Formula) -> Result<Premises, StepRefusal>
+pub(crate) fn true_negative(first: &Formula) -> Result<Premises, StepRefusal>
     ensures { (n : ℕ) (s g : List Formula) → Gives result (worked Step.TrueN n s first.now g) }
 {
     match outermost(first) {
@@ -29,7 +29,7 @@ fn true_negative(first: &Formula) -> Result<Premises, StepRefusal>
 }
 
 /// The step `ff-`: the negative `ff` is dropped.
-fn false_negative(
+pub(crate) fn false_negative(
     alloc: Global,
     level: u64,
     stored: &Formulas,
@@ -48,7 +48,7 @@ fn false_negative(
 }
 
 /// The step `or-`: both parts of a negative disjunction are worked on, one after the other.
-fn or_negative(
+pub(crate) fn or_negative(
     alloc: Global,
     level: u64,
     stored: &Formulas,
@@ -71,7 +71,7 @@ fn or_negative(
 }
 
 /// The step `and-`: each part of a negative conjunction is worked on in a premise of its own.
-fn and_negative(
+pub(crate) fn and_negative(
     alloc: Global,
     level: u64,
     stored: &Formulas,
@@ -94,7 +94,7 @@ fn and_negative(
 /// The step `all`: the body of a universal formula is worked on with the eigenvariable that has the level as its number. That is fresh, since the
 /// sequent's own are below the level.
 #[tactic(auto, using(crate::proofs::StepFacts::step_facts))]
-fn every(
+pub(crate) fn every(
     alloc: Global,
     level: u64,
     stored: &Formulas,
@@ -116,7 +116,7 @@ fn every(
 }
 
 /// The step `store`: a positive formula or a negative literal goes to the end of the stored formulas.
-fn store(
+pub(crate) fn store(
     alloc: Global,
     level: u64,
     stored: &Formulas,
@@ -132,27 +132,4 @@ fn store(
     more.push(first.copy()?)?;
     let work = Formulas::new(alloc).extended(rest)?;
     one_up(level, &more, work)
-}
-
-/// The premises of a step of the negative phase at the first worked formula, which is `first`.
-pub(crate) fn worked_premises(
-    alloc: Global,
-    level: u64,
-    stored: &Formulas,
-    first: &Formula,
-    rest: &[Formula],
-    step: &Step,
-) -> Result<Premises, StepRefusal>
-    requires { level < 2 ^ 64 - 1 }
-    ensures { Gives result (worked step.now level stored.now first.now rest.now) }
-{
-    match step {
-        Step::TrueN => true_negative(first),
-        Step::FalseN => false_negative(alloc, level, stored, first, rest),
-        Step::OrN => or_negative(alloc, level, stored, first, rest),
-        Step::AndN => and_negative(alloc, level, stored, first, rest),
-        Step::Every => every(alloc, level, stored, first, rest),
-        Step::Store => store(alloc, level, stored, first, rest),
-        _ => Err(StepRefusal::DoesNotFit),
-    }
 }

@@ -19,7 +19,7 @@ use polarised_formulas::step::Step;
 use std::alloc::Global;
 
 /// The step `tt+`: the positive `tt` closes the branch.
-fn true_positive(focus: &Formula) -> Result<Premises, StepRefusal>
+pub(crate) fn true_positive(focus: &Formula) -> Result<Premises, StepRefusal>
     ensures { (n : ℕ) (s : List Formula) → Gives result (focused Step.TrueP n s focus.now) }
 {
     match outermost(focus) {
@@ -29,7 +29,7 @@ fn true_positive(focus: &Formula) -> Result<Premises, StepRefusal>
 }
 
 /// The step `and+`: each part of a positive conjunction comes under focus in a premise of its own.
-fn and_positive(
+pub(crate) fn and_positive(
     alloc: Global,
     level: u64,
     stored: &Formulas,
@@ -47,7 +47,7 @@ fn and_positive(
 }
 
 /// The step `or+`: the part of a positive disjunction on the side that the step names stays under focus.
-fn or_positive(
+pub(crate) fn or_positive(
     alloc: Global,
     level: u64,
     stored: &Formulas,
@@ -70,7 +70,7 @@ fn or_positive(
 
 /// The step `some t`: the body of an existential formula stays under focus with a term that is in scope at the level.
 #[tactic(auto, using(crate::proofs::StepFacts::step_facts))]
-fn some(
+pub(crate) fn some(
     alloc: Global,
     level: u64,
     stored: &Formulas,
@@ -92,7 +92,7 @@ fn some(
 }
 
 /// The step `release`: a negative formula leaves the focus and is worked on.
-fn release(
+pub(crate) fn release(
     alloc: Global,
     level: u64,
     stored: &Formulas,
@@ -111,7 +111,7 @@ fn release(
 
 /// The step `init k`: a positive literal under focus closes with its dual at place k of the stored formulas.
 #[tactic(auto, using(crate::proofs::InitialFacts::initial_facts))]
-fn initial(stored: &Formulas, focus: &Formula, k: u64) -> Result<Premises, StepRefusal>
+pub(crate) fn initial(stored: &Formulas, focus: &Formula, k: u64) -> Result<Premises, StepRefusal>
     ensures { Gives result (closed_with focus.now (slice_get stored.now k)) }
 {
     if k >= stored.len() as u64 {
@@ -122,27 +122,6 @@ fn initial(stored: &Formulas, focus: &Formula, k: u64) -> Result<Premises, StepR
     }
     match outermost(focus) {
         Node::Atom { positive: true, .. } => Ok(Premises::None),
-        _ => Err(StepRefusal::DoesNotFit),
-    }
-}
-
-/// The premises of a step of the positive phase at the formula under focus.
-pub(crate) fn focused_premises(
-    alloc: Global,
-    level: u64,
-    stored: &Formulas,
-    focus: &Formula,
-    step: &Step,
-) -> Result<Premises, StepRefusal>
-    ensures { Gives result (focused step.now level stored.now focus.now) }
-{
-    match step {
-        Step::TrueP => true_positive(focus),
-        Step::AndP => and_positive(alloc, level, stored, focus),
-        Step::OrP(side) => or_positive(alloc, level, stored, focus, *side),
-        Step::Exists(term) => some(alloc, level, stored, focus, term),
-        Step::Release => release(alloc, level, stored, focus),
-        Step::Init(k) => initial(stored, focus, *k),
         _ => Err(StepRefusal::DoesNotFit),
     }
 }
