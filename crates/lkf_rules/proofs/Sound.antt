@@ -48,7 +48,8 @@ IsSound-every : (n : ℕ) (s : List Formula) (a : Formula) (g : List Formula) �
 IsSound-every n s a g =
     let wider = IsProperSequent-weaker (λ m. m < n) (λ m. m < n + 1) (λ m lt. omega arith) (up s (for_all a ∷ g)) in
     record {
-      rule = λ h. every s g a n (IsFresh-level n (up s (for_all a ∷ g)) h); named = λ h. (_, every s g a n (IsFresh-level n (up s (for_all a ∷ g)) h), (refl, refl), refl);
+      rule = λ h. every s g a n (IsFresh-level n (up s (for_all a ∷ g)) h);
+      named = λ h. (_, every s g a n (IsFresh-level n (up s (for_all a ∷ g)) h), (refl, refl), refl);
       scope = λ h. let k = wider h in ((k.0, (EachInside-open_at (λ m. m < n + 1) (eigen n) (omega arith) 0 a k.1.0, k.1.1)), tt);
       logic = λ h. ((h.0, (IsLkf-open_at 0 (eigen n) a h.1.0, h.1.1)), tt);
       levels = (omega arith, tt);
@@ -57,7 +58,8 @@ IsSound-every n s a g =
 -- an instance of `store`
 IsSound-store : (n : ℕ) (s : List Formula) (f : Formula) (g : List Formula) → is_storable f ≡ true → IsSound Store n (up s (f ∷ g)) ((n, up (s ++ f ∷ []) g) ∷ [])
 IsSound-store n s f g e = record {
-  rule = λ h. store s g f e; named = λ h. (_, store s g f e, refl, refl);
+  rule = λ h. store s g f e;
+  named = λ h. (_, store s g f e, refl, refl);
   scope = λ h. ((AllByRecursion-append (IsProper (λ m. m < n)) s (f ∷ []) h.0 (h.1.0, tt), h.1.1), tt);
   logic = λ h. ((AllByRecursion-append IsLkf s (f ∷ []) h.0 (h.1.0, tt), h.1.1), tt);
   levels = (omega arith, tt);
@@ -69,13 +71,15 @@ IfSome-worked TrueN n s (truth Negative) g = record { rule = λ h. true_negative
 IfSome-worked FalseN n s (falsity Negative) g =
     record { rule = λ h. false_negative s g; named = λ h. (_, false_negative s g, refl, refl); scope = λ h. ((h.0, h.1.1), tt); logic = λ h. ((h.0, h.1.1), tt); levels = (omega arith, tt) }
 IfSome-worked OrN n s (disj Negative a b) g = record {
-  rule = λ h. or_negative s g a b; named = λ h. (_, or_negative s g a b, refl, refl);
+  rule = λ h. or_negative s g a b;
+  named = λ h. (_, or_negative s g a b, refl, refl);
   scope = λ h. ((h.0, (h.1.0.0, (h.1.0.1, h.1.1))), tt);
   logic = λ h. ((h.0, (h.1.0.0, (h.1.0.1, h.1.1))), tt);
   levels = (omega arith, tt);
 }
 IfSome-worked AndN n s (conj Negative a b) g = record {
-  rule = λ h. and_negative s g a b; named = λ h. (_, and_negative s g a b, refl, refl);
+  rule = λ h. and_negative s g a b;
+  named = λ h. (_, and_negative s g a b, refl, refl);
   scope = λ h. ((h.0, (h.1.0.0, h.1.1)), ((h.0, (h.1.0.1, h.1.1)), tt));
   logic = λ h. ((h.0, (h.1.0.0, h.1.1)), ((h.0, (h.1.0.1, h.1.1)), tt));
   levels = (omega arith, (omega arith, tt));
@@ -87,7 +91,8 @@ IfSome-worked _ n s f g = tt
 -- a decision
 IsSound-decide : (n k : ℕ) (s : List Formula) (f : Formula) → slice_get s k ≡ Some f → polarity_of f ≡ Positive → IsSound (Decide k) n (up s []) ((n, down s f) ∷ [])
 IsSound-decide n k s f e p = record {
-  rule = λ h. decide s f (k, e) p; named = λ h. (_, decide s f (k, e) p, (k, refl, e), refl);
+  rule = λ h. decide s f (k, e) p;
+  named = λ h. (_, decide s f (k, e) p, (k, refl, e), refl);
   scope = λ h. ((h.0, AllByRecursion-at (IsProper (λ m. m < n)) s k f h.0 e), tt);
   logic = λ h. ((h.0, AllByRecursion-at IsLkf s k f h.0 e), tt);
   levels = (omega arith, tt);
@@ -164,7 +169,8 @@ IfSome-closed_with n k s _ _ e = tt
 IfSome-focused : (step : Step) (n : ℕ) (s : List Formula) (f : Formula) → IfSome (focused step n s f) (IsSound step n (down s f))
 IfSome-focused TrueP n s (truth Positive) = record { rule = λ h. true_positive s; named = λ h. (_, true_positive s, refl, refl); scope = λ h. tt; logic = λ h. tt; levels = tt }
 IfSome-focused AndP n s (conj Positive a b) = record {
-  rule = λ h. and_positive s a b; named = λ h. (_, and_positive s a b, refl, refl);
+  rule = λ h. and_positive s a b;
+  named = λ h. (_, and_positive s a b, refl, refl);
   scope = λ h. ((h.0, h.1.0), ((h.0, h.1.1), tt));
   logic = λ h. ((h.0, h.1.0), ((h.0, h.1.1), tt));
   levels = (omega arith, (omega arith, tt));

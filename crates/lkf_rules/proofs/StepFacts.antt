@@ -5,14 +5,13 @@ use Rattle.std.specs.Option.{IsSome}
 use Rattle.fpc_terms.specs.Term.{Term, Each, Always, Never}
 use Rattle.fpc_terms.proofs.ScopeFacts.{Each-weaker}
 use Rattle.polarised_formulas.specs.declared.step.Step.{Step}
-use Rattle.polarised_formulas.specs.declared.step.Step.TheVariants.{TrueN, TrueP, Cut}
+use Rattle.polarised_formulas.specs.declared.step.Step.TheVariants.{Cut}
 use Rattle.polarised_formulas.specs.Formula.{Formula, IsLkf}
 use Rattle.lkf_rules.specs.declared.rules.outcome.Premises.{Premises}
 use Rattle.lkf_rules.specs.declared.rules.outcome.StepRefusal.{StepRefusal}
 use Rattle.lkf_rules.specs.declared.rules.outcome.StepRefusal.TheVariants.{DoesNotFit, OutOfMemory}
 use Rattle.lkf_rules.specs.Sequent.{Levelled}
 use Rattle.lkf_rules.specs.Scope.{is_scoped, may_be_cut}
-use Rattle.lkf_rules.specs.Premises.{worked, focused}
 use Rattle.lkf_rules.specs.Values.{premise_list, Gives, Answers, MayRunOut}
 use Rattle.lkf_rules.proofs.Leaves.{InScope-is_scoped, IsLkf-may_be_cut}
 
@@ -25,6 +24,7 @@ pub is_lkf : (n : ℕ) (f : Formula) → may_be_cut n 0 f ≡ true → IsLkf f
 is_lkf n f passes = IsLkf-may_be_cut n 0 f passes
 
 pub ruleset step_facts = (is_unbound)
+
 pub ruleset cut_facts = (is_lkf)
 
 -- memory may run out at each step that names premises
@@ -60,11 +60,4 @@ Answers-memory step (Ok p) o h e = cc
 Answers-memory step (Err DoesNotFit) o h e = cc
 Answers-memory step (Err OutOfMemory) o h e = h
 
--- the answers of the steps that close a branch, which look at the first worked formula or the one under focus alone
-pub Answers-true_negative : (r : Result Premises StepRefusal) (f : Formula) → ((n : ℕ) (s g : List Formula) → Gives r (worked TrueN n s f g)) → (n : ℕ) (s g : List Formula) → Answers TrueN r (worked TrueN n s f g)
-Answers-true_negative r f h n s g = Answers-gives TrueN r (worked TrueN n s f g) (h n s g)
-
-pub Answers-true_positive : (r : Result Premises StepRefusal) (f : Formula) → ((n : ℕ) (s : List Formula) → Gives r (focused TrueP n s f)) → (n : ℕ) (s : List Formula) → Answers TrueP r (focused TrueP n s f)
-Answers-true_positive r f h n s = Answers-gives TrueP r (focused TrueP n s f) (h n s)
-
-pub ruleset answer_facts = (Answers-true_negative, Answers-true_positive, Answers-gives, Answers-fits, Answers-unfit, Answers-memory)
+pub ruleset answer_facts = (Answers-gives, Answers-fits, Answers-unfit, Answers-memory)

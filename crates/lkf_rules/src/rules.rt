@@ -14,12 +14,15 @@ pub mod storable;
 use crate::sequent::Sequent;
 use choice::{cut, decide};
 use fpc_base::outside::OutOfMemory;
-use negative::{and_negative, every, false_negative, or_negative, store, true_negative};
+use negative::{and_negative, every, false_negative, or_negative, store};
 use outcome::{Premises, StepRefusal, only};
 use polarised_formulas::formula::Formula;
 use polarised_formulas::list::Formulas;
+use polarised_formulas::logic::Polarity::{Negative, Positive};
+use polarised_formulas::node::Node;
+use polarised_formulas::shape::outermost;
 use polarised_formulas::step::Step;
-use positive::{and_positive, initial, or_positive, release, some, true_positive};
+use positive::{and_positive, initial, or_positive, release, some};
 use std::alloc::Global;
 
 /// The root sequent of a goal, at level 0: nothing is stored, and the goal is worked on. Time and memory are linear in the goal's size.
@@ -33,7 +36,7 @@ pub fn root(alloc: Global, goal: &Formula) -> Result<Sequent, OutOfMemory>
     })
 }
 
-/// The table of the rules. S are the stored formulas, G those that are worked on behind the first one.
+/// The table of the rules, each line with the step and the outermost node that it asks for.
 #[tactic(auto, using(crate::proofs::StepFacts::answer_facts))]
 fn answer_to(alloc: Global, sequent: &Sequent, step: &Step) -> Result<Premises, StepRefusal>
     requires level { (levelled sequent.now).0 < 2 ^ 64 - 1 }
@@ -41,31 +44,36 @@ fn answer_to(alloc: Global, sequent: &Sequent, step: &Step) -> Result<Premises, 
 {
     match sequent {
         Sequent::Up {
-            level,
-            stored,
+            level: n,
+            stored: s,
             work,
-        } => match (step, work.items()) {
-            (Step::TrueN, [first, ..]) => true_negative(first),
-            (Step::FalseN, [first, rest @ ..]) => false_negative(alloc, *level, stored, first, rest),
-            (Step::OrN, [first, rest @ ..]) => or_negative(alloc, *level, stored, first, rest),
-            (Step::AndN, [first, rest @ ..]) => and_negative(alloc, *level, stored, first, rest),
-            (Step::Every, [first, rest @ ..]) => every(alloc, *level, stored, first, rest),
-            (Step::Store, [first, rest @ ..]) => store(alloc, *level, stored, first, rest),
-            (Step::Decide(k), []) => decide(*level, stored, *k),
-            (Step::Cut(formula), []) => cut(alloc, *level, stored, formula),
-            _ => Err(StepRefusal::DoesNotFit),
+        } => match work.items() {
+            [f, g @ ..] => match (step, outermost(f)) {
+                (Step::TrueN, Node::True(Negative)) => Ok(Premises::None),
+                (Step::FalseN, Node::False(Negative)) => false_negative(alloc, *n, s, g),
+                (Step::OrN, Node::Or(Negative)) => or_negative(alloc, *n, s, f, g),
+                (Step::AndN, Node::And(Negative)) => and_negative(alloc, *n, s, f, g),
+                (Step::Every, Node::ForAll) => every(alloc, *n, s, f, g),
+                (Step::Store, _) => store(alloc, *n, s, f, g),
+                _ => Err(StepRefusal::DoesNotFit),
+            },
+            [] => match step {
+                Step::Decide(k) => decide(*n, s, *k),
+                Step::Cut(b) => cut(alloc, *n, s, b),
+                _ => Err(StepRefusal::DoesNotFit),
+            },
         },
         Sequent::Down {
-            level,
-            stored,
-            focus,
-        } => match step {
-            Step::TrueP => true_positive(focus),
-            Step::AndP => and_positive(alloc, *level, stored, focus),
-            Step::OrP(side) => or_positive(alloc, *level, stored, focus, *side),
-            Step::Exists(term) => some(alloc, *level, stored, focus, term),
-            Step::Release => release(alloc, *level, stored, focus),
-            Step::Init(k) => initial(stored, focus, *k),
+            level: n,
+            stored: s,
+            focus: f,
+        } => match (step, outermost(f)) {
+            (Step::TrueP, Node::True(Positive)) => Ok(Premises::None),
+            (Step::AndP, Node::And(Positive)) => and_positive(alloc, *n, s, f),
+            (Step::OrP(side), Node::Or(Positive)) => or_positive(alloc, *n, s, f, *side),
+            (Step::Exists(t), Node::Exists) => some(alloc, *n, s, f, t),
+            (Step::Release, _) => release(alloc, *n, s, f),
+            (Step::Init(k), Node::Atom { positive: true, .. }) => initial(s, f, *k),
             _ => Err(StepRefusal::DoesNotFit),
         },
     }

@@ -1,6 +1,6 @@
 //! The steps of the positive phase, on the formula under focus.
-ghost use Rattle.std.specs.Prelude.{◌≡◌, ℕ, List, slice_get};
-ghost use Rattle.polarised_formulas.specs.Formula.{Formula};
+ghost use Rattle.std.specs.Prelude.{◌≡◌, ℕ, true, slice_get};
+ghost use Rattle.polarised_formulas.specs.Formula.{root_node};
 ghost use Rattle.lkf_rules.specs.Premises.{focused, closed_with};
 ghost use Rattle.lkf_rules.specs.Values.{Gives};
 
@@ -14,19 +14,9 @@ use polarised_formulas::logic::{Polarity, Side};
 use polarised_formulas::node::Node;
 use polarised_formulas::opening::open_with;
 use polarised_formulas::parts::parts;
-use polarised_formulas::shape::{outermost, polarity};
+use polarised_formulas::shape::polarity;
 use polarised_formulas::step::Step;
 use std::alloc::Global;
-
-/// The step `tt+`: the positive `tt` closes the branch.
-pub(crate) fn true_positive(focus: &Formula) -> Result<Premises, StepRefusal>
-    ensures { (n : ℕ) (s : List Formula) → Gives result (focused Step.TrueP n s focus.now) }
-{
-    match outermost(focus) {
-        Node::True(Polarity::Positive) => Ok(Premises::None),
-        _ => Err(StepRefusal::DoesNotFit),
-    }
-}
 
 /// The step `and+`: each part of a positive conjunction comes under focus in a premise of its own.
 pub(crate) fn and_positive(
@@ -35,15 +25,11 @@ pub(crate) fn and_positive(
     stored: &Formulas,
     focus: &Formula,
 ) -> Result<Premises, StepRefusal>
+    requires { root_node focus.now ≡ Node.And Polarity.Positive }
     ensures { Gives result (focused Step.AndP level stored.now focus.now) }
 {
-    match outermost(focus) {
-        Node::And(Polarity::Positive) => {
-            let (a, b) = parts(alloc, focus)?;
-            two_down(level, stored, a, b)
-        }
-        _ => Err(StepRefusal::DoesNotFit),
-    }
+    let (a, b) = parts(alloc, focus)?;
+    two_down(level, stored, a, b)
 }
 
 /// The step `or+`: the part of a positive disjunction on the side that the step names stays under focus.
@@ -54,17 +40,13 @@ pub(crate) fn or_positive(
     focus: &Formula,
     side: Side,
 ) -> Result<Premises, StepRefusal>
+    requires { root_node focus.now ≡ Node.Or Polarity.Positive }
     ensures { Gives result (focused (Step.OrP side) level stored.now focus.now) }
 {
-    match outermost(focus) {
-        Node::Or(Polarity::Positive) => {
-            let (a, b) = parts(alloc, focus)?;
-            match side {
-                Side::Left => one_down(level, stored, a),
-                Side::Right => one_down(level, stored, b),
-            }
-        }
-        _ => Err(StepRefusal::DoesNotFit),
+    let (a, b) = parts(alloc, focus)?;
+    match side {
+        Side::Left => one_down(level, stored, a),
+        Side::Right => one_down(level, stored, b),
     }
 }
 
@@ -77,18 +59,14 @@ pub(crate) fn some(
     focus: &Formula,
     term: &TermBuf,
 ) -> Result<Premises, StepRefusal>
+    requires { root_node focus.now ≡ Node.Exists }
     ensures { Gives result (focused (Step.Exists term.now) level stored.now focus.now) }
 {
     if !is_in_scope(term, level) {
         return Err(StepRefusal::DoesNotFit);
     }
-    match outermost(focus) {
-        Node::Exists => {
-            let body = open_with(alloc, focus, term)?;
-            one_down(level, stored, body)
-        }
-        _ => Err(StepRefusal::DoesNotFit),
-    }
+    let body = open_with(alloc, focus, term)?;
+    one_down(level, stored, body)
 }
 
 /// The step `release`: a negative formula leaves the focus and is worked on.
@@ -112,6 +90,7 @@ pub(crate) fn release(
 /// The step `init k`: a positive literal under focus closes with its dual at place k of the stored formulas.
 #[tactic(auto, using(crate::proofs::InitialFacts::initial_facts))]
 pub(crate) fn initial(stored: &Formulas, focus: &Formula, k: u64) -> Result<Premises, StepRefusal>
+    requires { (name n : ℕ) × (root_node focus.now ≡ Node.Atom true name n) }
     ensures { Gives result (closed_with focus.now (slice_get stored.now k)) }
 {
     if k >= stored.len() as u64 {
@@ -120,8 +99,5 @@ pub(crate) fn initial(stored: &Formulas, focus: &Formula, k: u64) -> Result<Prem
     if !is_dual(focus, stored.get(k as usize)) {
         return Err(StepRefusal::DoesNotFit);
     }
-    match outermost(focus) {
-        Node::Atom { positive: true, .. } => Ok(Premises::None),
-        _ => Err(StepRefusal::DoesNotFit),
-    }
+    Ok(Premises::None)
 }
