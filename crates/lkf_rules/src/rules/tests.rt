@@ -9,7 +9,7 @@ use std::process::Abort;
 use std::test::Fail;
 
 /// The names of the table: `p` is an atom, `r` a predicate of one argument.
-#[derive(Clone, Copy)]
+#[derive(Drop)]
 struct Letters {
     p: NameId,
     r: NameId,
@@ -131,7 +131,7 @@ fn literal_formula(
     }
 }
 
-fn formula(alloc: Global, letters: Letters, shape: Shape) -> Result<Formula, OutOfMemory> {
+fn formula(alloc: Global, letters: &Letters, shape: Shape) -> Result<Formula, OutOfMemory> {
     match shape {
         Shape::Yes(polarity) => Formula::from_nodes(alloc, &[Node::True(polarity)]),
         Shape::No(polarity) => Formula::from_nodes(alloc, &[Node::False(polarity)]),
@@ -153,7 +153,7 @@ fn formula(alloc: Global, letters: Letters, shape: Shape) -> Result<Formula, Out
     }
 }
 
-fn list(alloc: Global, letters: Letters, shapes: &[Shape]) -> Result<Formulas, OutOfMemory> {
+fn list(alloc: Global, letters: &Letters, shapes: &[Shape]) -> Result<Formulas, OutOfMemory> {
     let mut list = Formulas::new(alloc);
     for shape in shapes {
         list.push(formula(alloc, letters, *shape)?)?;
@@ -163,7 +163,7 @@ fn list(alloc: Global, letters: Letters, shapes: &[Shape]) -> Result<Formulas, O
 
 fn sequent_at(
     alloc: Global,
-    letters: Letters,
+    letters: &Letters,
     level: u64,
     stored: &[Shape],
     place: Place<'_>,
@@ -197,7 +197,7 @@ fn term(alloc: Global, leaf: Leaf) -> Result<TermBuf, OutOfMemory> {
     }
 }
 
-fn step_of(alloc: Global, letters: Letters, act: Act) -> Result<Step, OutOfMemory> {
+fn step_of(alloc: Global, letters: &Letters, act: Act) -> Result<Step, OutOfMemory> {
     Ok(match act {
         Act::TrueN => Step::TrueN,
         Act::FalseN => Step::FalseN,
@@ -632,7 +632,7 @@ fn letters_of(alloc: Global) -> Result<Letters, Fail> {
     })
 }
 
-fn check_row(rt: &impl Abort, alloc: Global, letters: Letters, row: Row<'_>) -> Result<(), Fail> {
+fn check_row(rt: &impl Abort, alloc: Global, letters: &Letters, row: Row<'_>) -> Result<(), Fail> {
     let (level, stored, place, act, want) = row;
     let sequent = sequent_at(alloc, letters, level, stored, place)?;
     let step = step_of(alloc, letters, act)?;
@@ -644,7 +644,7 @@ fn check_row(rt: &impl Abort, alloc: Global, letters: Letters, row: Row<'_>) -> 
 fn check_rows(rt: &impl Abort, alloc: Global, rows: &[Row<'_>]) -> Result<(), Fail> {
     let letters = letters_of(alloc)?;
     for row in rows {
-        check_row(rt, alloc, letters, *row)?;
+        check_row(rt, alloc, &letters, *row)?;
     }
     Ok(())
 }
@@ -658,7 +658,7 @@ fn lines_of_the_table(rt: HostRuntime) -> Result<(), Fail> {
 #[test]
 fn the_root_is_worked_on_at_level_0(rt: HostRuntime) -> Result<(), Fail> {
     let letters = letters_of(rt.alloc())?;
-    let goal = formula(rt.alloc(), letters, Shape::Or(Negative))?;
+    let goal = formula(rt.alloc(), &letters, Shape::Or(Negative))?;
     let start = root(rt.alloc(), &goal)?;
     let mut text = String::new(rt.alloc());
     push_sequent(rt.alloc(), &mut text, &start)?;
