@@ -24,6 +24,6 @@ returns-in-Err-clause-unfit c =
     let next : IsNext c.args.self.now c.in-Some.sequent.now = IsNext-top c.self.inside.sequents c.in-Some.sequent.now c.args.self.now c.in-Some.ensures.some c.self.view_is in (
       λ e. let h : c.in-Err.refusal ≡ DoesNotFit = cc in (unfitting c.args.self.now c.in-Some.sequent.now c.args.step.now next (c.in-Err.ensures.unfit.0 (ap Err h)).0, λ x. cc),
       λ g.
-        let some_memory : c.in-Err.refusal ≢ OutOfMemory = λ e. g.1 (ap Err e) in
-        let h = c.in-Err.ensures.unfit.1 (names_no_premises c.args.self.now c.in-Some.sequent.now c.args.step.now next g.0, λ x. some_memory cc) in cc,
+          let some_memory : c.in-Err.refusal ≢ OutOfMemory = λ e. g.1 (ap Err e) in
+          let h = c.in-Err.ensures.unfit.1 (names_no_premises c.args.self.now c.in-Some.sequent.now c.args.step.now next g.0, λ x. some_memory cc) in cc,
     )
