@@ -1,0 +1,3 @@
+pub mod WrittenOf
+pub mod Size
+pub mod Spoken
