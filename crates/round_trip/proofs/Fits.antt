@@ -25,10 +25,10 @@ use Rattle.round_trip.proofs.Small.{written_depth, words_count, IsSmall, AreSmal
 not-equal : (a b : ℕ) → (a ≡ b → ⊥) → nat_eq a b ≡ false
 not-equal a b h = grind (arith, nat_tests)
 
-less-than : (a b : ℕ) → nat_eq a b ≡ false → a ≤ b → a < b
+pub less-than : (a b : ℕ) → nat_eq a b ≡ false → a ≤ b → a < b
 less-than a b h le = grind (arith, nat_tests)
 
-joiner-behind : (logic : Logic) (j : Joiner) (rest : List Lexeme) → IsBehind (a_sign (joiner_sign logic j) ∷ rest)
+pub joiner-behind : (logic : Logic) (j : Joiner) (rest : List Lexeme) → IsBehind (a_sign (joiner_sign logic j) ∷ rest)
 joiner-behind logic (And Positive) rest = tt
 joiner-behind logic (And Negative) rest = tt
 joiner-behind Lkf (Or Positive) rest = tt
