@@ -1,3 +1,4 @@
 pub mod WrittenOf
 pub mod Size
 pub mod Spoken
+pub mod EachName
