@@ -1,11 +1,11 @@
 -- The limits let the machine of formulas pass the tokens of a formula exactly where it is nested at most 10,000 deep and each name has at
 -- most 255 arguments.
-use Rattle.std.proofs.Common.{◌≡◌, ℕ, suc, ◌+◌, ◌<◌, ◌≤◌, Bool, true, false, if◌then◌else◌, nat_eq, List, [], ◌∷◌, ◌++◌, length, refl, ap, sym, subst, ◌∙◌, arith, max, Some}
+use Rattle.std.proofs.Common.{◌≡◌, ℕ, suc, ◌+◌, ◌<◌, ◌≤◌, Bool, true, false, if◌then◌else◌, nat_eq, List, [], ◌∷◌, length, refl, ap, sym, subst, arith}
 use Rattle.std.proofs.lemmas.Bool.Decides.{nat_tests}
 use Rattle.fpc_base.specs.declared.tokens.lexeme.Sign.TheVariants as sign
 use Rattle.fpc_base.specs.Lexeme.{Lexeme, a_name, a_variable, a_sign}
 use Rattle.fpc_terms.specs.Written.{WrittenTerm, WrittenArgs, variable_word, application, no_words, words, term_tokens, args_tokens, more_tokens, IsKnown, AreKnown}
-use Rattle.fpc_terms.specs.Spot.{Spot, alone, in_arguments, in_term}
+use Rattle.fpc_terms.specs.Spot.{Spot, in_arguments, in_term}
 use Rattle.fpc_terms.specs.Machine as term
 use Rattle.fpc_terms.proofs.TermLaws.{IsBehind, more-behind}
 use Rattle.polarised_formulas.specs.declared.logic.Logic.{Logic}
@@ -17,8 +17,8 @@ use Rattle.formula_grammar.specs.declared.connective.Joiner.TheVariants.{And, Or
 use Rattle.formula_grammar.specs.declared.connective.Binder.{Binder}
 use Rattle.formula_grammar.specs.declared.connective.Binder.TheVariants.{ForAll, Exists}
 use Rattle.formula_grammar.specs.Written.{WrittenFormula, true_unit, false_unit, literal, pair, bind, formula_tokens, mark_tokens, joiner_sign, binder_sign, IsJoinerOf, IsFalseOf, IsBound, IsWrittenIn, is_known}
-use Rattle.formula_grammar.specs.Place.{Place, whole, in_first, in_second, under, scope_at, nesting}
-use Rattle.formula_grammar.specs.Machine.{FormulaState, wants, named, in_atom, has, stuck, joined, joiner_of, within_atom, step, is_deep, is_full}
+use Rattle.formula_grammar.specs.Place.{Place, in_first, in_second, under, scope_at, nesting}
+use Rattle.formula_grammar.specs.Machine.{FormulaState, wants, named, in_atom, has, joined, joiner_of, within_atom, step, is_deep, is_full}
 use Rattle.formula_grammar.proofs.Complete.{joiner_of-joiner_sign}
 use Rattle.round_trip.proofs.Small.{written_depth, words_count, IsSmall, AreSmall, HasSmall}
 

@@ -1,5 +1,5 @@
 -- The written formula of a formula means the formula, is bound and is of its logic.
-use Rattle.std.proofs.Common.{◌≡◌, ℕ, zero, suc, ◌+◌, ◌-◌, ◌^◌, ◌<◌, ◌≤◌, Bool, true, false, if◌then◌else◌, ◌||◌, List, [], ◌∷◌, ◌++◌, codes, refl, ap, sym, subst, ◌∙◌, arith, max, Option, Some, None}
+use Rattle.std.proofs.Common.{◌≡◌, ℕ, zero, suc, ◌+◌, ◌-◌, ◌^◌, ◌<◌, ◌≤◌, Bool, true, false, ◌||◌, List, [], ◌∷◌, refl, ap, sym, subst, ◌∙◌, arith, Option, Some, None}
 use Rattle.std.specs.Prelude.{slice_get, unwrap_or}
 use Rattle.std.specs.Str.{bytes_eq}
 use Rattle.std.specs.Fmt.{decimal}
@@ -19,7 +19,7 @@ use Rattle.polarised_formulas.specs.declared.logic.Logic.{Logic}
 use Rattle.polarised_formulas.specs.declared.logic.Logic.TheVariants.{Lkf, Ljf}
 use Rattle.polarised_formulas.specs.declared.logic.Polarity.TheVariants.{Positive, Negative}
 use Rattle.polarised_formulas.specs.Formula.{Formula, truth, falsity, atom, conj, disj, implies, for_all, exists, EachInside, Tied, IsClosed, IsOfLogic}
-use Rattle.formula_grammar.specs.Written.{formula_tokens, logic_word, is_known, IsBound, IsWrittenIn, index_in, variable_meant, formula_meant, WrittenProblem, IsProblem}
+use Rattle.formula_grammar.specs.Written.{formula_tokens, logic_word, is_known, IsBound, IsWrittenIn, index_in, variable_meant, formula_meant, IsProblem}
 use Rattle.round_trip.specs.WrittenOf.{bound_text, bound_scope, written_term, written_args, written_of, IsNamed, AreNamed, HasNames}
 use Rattle.round_trip.specs.Size.{depth_of}
 

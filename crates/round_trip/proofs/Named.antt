@@ -1,5 +1,5 @@
 -- The names that the tokens of a text say are name tokens.
-use Rattle.std.proofs.Common.{◌≡◌, ℕ, zero, suc, ◌-◌, Bool, true, false, List, [], ◌∷◌, map, take, refl, Option, Some, None}
+use Rattle.std.proofs.Common.{◌≡◌, ℕ, zero, suc, ◌-◌, Bool, true, false, List, [], ◌∷◌, map, Option, Some, None}
 use Rattle.fpc_base.specs.declared.tokens.TokenKind.{TokenKind}
 use Rattle.fpc_base.specs.declared.tokens.TokenKind.TheVariants.{Name, Variable, Number, Word, Symbol}
 use Rattle.fpc_base.specs.declared.tokens.front.Front.{Front}
@@ -7,7 +7,7 @@ use Rattle.fpc_base.specs.declared.tokens.front.Front.TheVariants.{Gap, Piece, F
 use Rattle.fpc_base.specs.declared.tokens.lexeme.Sign.{Sign}
 use Rattle.fpc_base.specs.declared.tokens.lexeme.Sign.TheVariants as sign
 use Rattle.fpc_base.specs.Tokens.{Scanned, token, refused, scanned, size_of, front_of, tokens_behind, tokens_of, HasForm, IsLongest}
-use Rattle.fpc_base.specs.Lexeme.{Lexeme, a_name, a_variable, a_number, a_sign, unused, Item, says, fault, said, lexeme_of, sign_of_word, sign_of_symbol, item_of, items_of}
+use Rattle.fpc_base.specs.Lexeme.{Lexeme, a_name, a_sign, said, lexeme_of, sign_of_word, sign_of_symbol, item_of, items_of}
 use Rattle.fpc_base.proofs.LongestToken.{IsLongest-front_of}
 use Rattle.fpc_terms.specs.Written.{WrittenTerm, WrittenArgs, variable_word, application, no_words, words, term_tokens, args_tokens, more_tokens}
 use Rattle.polarised_formulas.specs.declared.logic.Logic.{Logic}

@@ -1,11 +1,10 @@
 -- What was read of a problem is nested at most 10,000 deep, and each name has at most 255 arguments.
-use Rattle.std.proofs.Common.{◌≡◌, ℕ, suc, ◌+◌, ◌<◌, ◌≤◌, Bool, true, false, if◌then◌else◌, nat_eq, List, [], ◌∷◌, ◌++◌, length, refl, ap, sym, subst, ◌∙◌, arith, max, Some, Result, Ok, Err}
-use Rattle.std.proofs.lemmas.Bool.Decides.{nat_tests}
+use Rattle.std.proofs.Common.{◌≡◌, ℕ, suc, ◌+◌, ◌<◌, ◌≤◌, Bool, true, false, if◌then◌else◌, List, [], ◌∷◌, ◌++◌, length, refl, ap, sym, subst, arith, Some, Ok}
 use Rattle.fpc_base.specs.declared.tokens.lexeme.Sign.TheVariants as sign
 use Rattle.fpc_base.specs.Lexeme.{Lexeme, a_name, a_variable, a_sign, Item}
 use Rattle.fpc_base.specs.Reading.{ReadsAll}
 use Rattle.fpc_terms.specs.Written.{WrittenTerm, WrittenArgs, variable_word, application, no_words, words, term_tokens, args_tokens, more_tokens, IsKnown, AreKnown}
-use Rattle.fpc_terms.specs.Spot.{Spot, alone, in_arguments, in_term}
+use Rattle.fpc_terms.specs.Spot.{Spot, in_arguments, in_term}
 use Rattle.fpc_terms.specs.Machine as term
 use Rattle.fpc_terms.proofs.TermLaws.{IsBehind, more-behind}
 use Rattle.polarised_formulas.specs.declared.logic.Logic.{Logic}
@@ -17,7 +16,7 @@ use Rattle.formula_grammar.specs.declared.connective.Binder.{Binder}
 use Rattle.formula_grammar.specs.declared.connective.Binder.TheVariants.{ForAll, Exists}
 use Rattle.formula_grammar.specs.Written.{WrittenFormula, true_unit, false_unit, literal, pair, bind, formula_tokens, mark_tokens, joiner_sign, binder_sign, IsJoinerOf, IsFalseOf, IsBound, IsWrittenIn, is_known, WrittenProblem, IsProblem, logic_word}
 use Rattle.formula_grammar.specs.Place.{Place, whole, in_first, in_second, under, scope_at, nesting, ProblemLimits}
-use Rattle.formula_grammar.specs.Machine.{FormulaState, wants, named, in_atom, has, stuck, joined, joiner_of, within_atom, step, run, whole_of, is_deep, is_full, within, limited, ProblemState, start, reading as reading_of, problem_step, limited_problem, read_within}
+use Rattle.formula_grammar.specs.Machine.{FormulaState, wants, named, in_atom, has, stuck, joined, within_atom, step, run, whole_of, is_deep, is_full, within, ProblemState, start, reading as reading_of, problem_step, limited_problem, read_within}
 use Rattle.formula_grammar.proofs.States.{IsLive}
 use Rattle.formula_grammar.proofs.Sound.{live-run}
 use Rattle.formula_grammar.proofs.Complete.{joiner_of-joiner_sign, run-ends}
@@ -26,7 +25,7 @@ use Rattle.formula_grammar.proofs.ProblemLaws.{formula-append, step-dot, start-w
 use Rattle.round_trip.specs.Spoken.{Says}
 use Rattle.round_trip.proofs.Small.{written_depth, words_count, IsSmall, AreSmall, HasSmall}
 use Rattle.round_trip.proofs.Fits.{Fits, less-than, joiner-behind}
-use Rattle.round_trip.proofs.Takes.{TakesAll, IsBuilt, Taken, Taken-read}
+use Rattle.round_trip.proofs.Takes.{TakesAll, IsBuilt, Taken-read}
 
 module _ (logic : Logic) (parameters : List (List ℕ)) (positive : Bool) (x : List ℕ) (p : Place) where
   abbrev FitsIn : term.TermState → List Lexeme → Type 0

@@ -1,5 +1,5 @@
 -- What a piece of printed text says, before other bytes.
-use Rattle.std.proofs.Common.{◌≡◌, ℕ, suc, zero, ◌+◌, ◌-◌, ◌*◌, ◌^◌, ◌/◌, ◌%◌, ◌<◌, ◌≤◌, Bool, true, false, cond, if◌then◌else◌, not, ◌&&◌, ◌||◌, nat_eq, nat_le, nat_lt, List, [], ◌∷◌, ◌++◌, length, take, drop, map, codes, refl, ap, subst, arith, ◌∙◌, sym, ◌⊎◌, inl, inr, append_assoc, length-append}
+use Rattle.std.proofs.Common.{◌≡◌, ℕ, suc, ◌+◌, ◌^◌, ◌%◌, ◌<◌, ◌≤◌, Bool, true, false, cond, not, ◌&&◌, ◌||◌, nat_eq, nat_le, nat_lt, List, [], ◌∷◌, ◌++◌, length, take, drop, map, codes, refl, ap, arith, ◌∙◌, sym, length-append}
 use Rattle.std.specs.List.{list_all, prefix_len}
 use Rattle.std.specs.Fmt.{decimal}
 use Rattle.std.proofs.Math.Seq.{take-append_seam, drop-append_seam}
@@ -9,12 +9,10 @@ use Rattle.std.proofs.lemmas.Bool.{and_parts, false≢true}
 use Rattle.std.proofs.Math.Bool.{and-false}
 use Rattle.std.proofs.lemmas.Bool.Decides.{nat_tests}
 use Rattle.fpc_base.specs.declared.tokens.TokenKind.{TokenKind}
-use Rattle.fpc_base.specs.declared.tokens.TokenKind.TheVariants.{Name, Variable, Number, Word, Symbol}
-use Rattle.fpc_base.specs.declared.tokens.front.Front.{Front}
-use Rattle.fpc_base.specs.declared.tokens.front.Front.TheVariants.{Gap, Piece, Fault}
-use Rattle.fpc_base.specs.declared.tokens.lexeme.Sign.{Sign}
+use Rattle.fpc_base.specs.declared.tokens.TokenKind.TheVariants.{Name, Variable, Word, Symbol}
+use Rattle.fpc_base.specs.declared.tokens.front.Front.TheVariants.{Piece}
 use Rattle.fpc_base.specs.declared.tokens.lexeme.Sign.TheVariants as sign
-use Rattle.fpc_base.specs.Tokens.{is_small, is_capital, is_digit, is_word_byte, is_blank, is_one_of, unit_words, keywords, begins_with_sign, limited, word_of, front_of, size_of, token, scanned, tokens_behind, is_word, is_variable, is_number, has_form, is_too_long, HasForm}
+use Rattle.fpc_base.specs.Tokens.{is_small, is_capital, is_digit, is_word_byte, is_blank, is_one_of, unit_words, keywords, begins_with_sign, word_of, front_of, tokens_behind, is_word, is_variable, is_number, HasForm}
 use Rattle.fpc_base.specs.Lexeme.{Lexeme, a_name, a_variable, a_sign, lexeme_of, item_of}
 use Rattle.fpc_base.proofs.TokenLemmas.{IsFront, tokens_behind-front}
 use Rattle.round_trip.specs.WrittenOf.{bound_text}

@@ -1,5 +1,5 @@
 -- What is printed of a problem is read back.
-use Rattle.std.proofs.Common.{◌≡◌, ℕ, ◌+◌, ◌^◌, ◌≤◌, List, [], ◌∷◌, refl, arith}
+use Rattle.std.proofs.Common.{ℕ, ◌≤◌, List, [], arith}
 use Rattle.fpc_base.specs.Lexeme.{items_of}
 use Rattle.fpc_base.specs.Reading.{ReadsAll}
 use Rattle.polarised_formulas.specs.declared.logic.Logic.{Logic}

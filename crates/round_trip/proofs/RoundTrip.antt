@@ -1,8 +1,6 @@
 -- A problem that was read is printed and read back.
 use Rattle.std.proofs.Common.{◌≡◌, ℕ, ◌≤◌, List, [], ◌∷◌, refl, subst, arith}
-use Rattle.fpc_base.specs.declared.tokens.TokenKind.TheVariants.{Name}
 use Rattle.fpc_base.specs.declared.tokens.lexeme.Sign.TheVariants as sign
-use Rattle.fpc_base.specs.Tokens.{HasForm}
 use Rattle.fpc_base.specs.Lexeme.{a_sign, items_of}
 use Rattle.fpc_base.specs.Reading.{ReadsAll}
 use Rattle.fpc_terms.specs.Name.{Agrees, HasName}
@@ -17,7 +15,7 @@ use Rattle.round_trip.specs.EachName.{EachNameIn}
 use Rattle.round_trip.proofs.Meant.{formula_meant-written_of}
 use Rattle.round_trip.proofs.Small.{depth_of-formula_meant, HasFewArguments-formula_meant}
 use Rattle.round_trip.proofs.Takes.{IsBuilt}
-use Rattle.round_trip.proofs.Passed.{IsRead, IsRead-read}
+use Rattle.round_trip.proofs.Passed.{IsRead-read}
 use Rattle.round_trip.proofs.Named.{EachName-said}
 use Rattle.round_trip.proofs.Closed.{IsClosed-formula_meant, IsOfLogic-formula_meant, HasNames-formula_meant}
 use Rattle.round_trip.proofs.Printed.{ReadsAll-text}

@@ -1,5 +1,5 @@
 -- The text of a problem says the tokens of its written formula.
-use Rattle.std.proofs.Common.{◌≡◌, ℕ, suc, ◌+◌, ◌-◌, ◌^◌, ◌<◌, ◌≤◌, Bool, true, false, List, [], ◌∷◌, ◌++◌, codes, refl, arith, append_assoc, max}
+use Rattle.std.proofs.Common.{◌≡◌, ℕ, suc, ◌+◌, ◌-◌, ◌^◌, ◌<◌, ◌≤◌, Bool, true, false, List, [], ◌∷◌, ◌++◌, codes, refl, arith, append_assoc}
 use Rattle.std.specs.Fmt.{decimal}
 use Rattle.fpc_base.specs.Lexeme.{Lexeme, a_name, a_variable, a_sign, items_of}
 use Rattle.fpc_base.specs.declared.tokens.lexeme.Sign.TheVariants as sign
@@ -12,9 +12,7 @@ use Rattle.polarised_formulas.specs.declared.logic.Polarity.{Polarity}
 use Rattle.polarised_formulas.specs.declared.logic.Polarity.TheVariants.{Positive, Negative}
 use Rattle.polarised_formulas.specs.Formula.{Formula, truth, falsity, atom, conj, disj, implies, for_all, exists, EachInside, Tied, IsClosed}
 use Rattle.polarised_formulas.specs.Text.{named_leaves, named_style, formula_before, problem_text, logic_text, operator_before, conj_text, disj_text, truth_text, falsity_text, mark_text}
-use Rattle.formula_grammar.specs.declared.connective.Joiner.{Joiner}
-use Rattle.formula_grammar.specs.declared.connective.Joiner.TheVariants.{And, Or, Implies}
-use Rattle.formula_grammar.specs.declared.connective.Binder.TheVariants.{ForAll, Exists}
+use Rattle.formula_grammar.specs.declared.connective.Joiner.TheVariants.{And, Or}
 use Rattle.formula_grammar.specs.Written.{formula_tokens, joiner_sign, true_sign, false_sign, mark_tokens, logic_word}
 use Rattle.round_trip.specs.WrittenOf.{bound_text, written_term, written_args, written_of, IsNamed, AreNamed, HasNames}
 use Rattle.round_trip.specs.Size.{depth_of}

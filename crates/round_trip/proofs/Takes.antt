@@ -1,15 +1,15 @@
 -- A problem is read where the machine takes each of its tokens.
-use Rattle.std.proofs.Common.{◌≡◌, ℕ, ◌+◌, ◌≤◌, Bool, true, false, List, [], ◌∷◌, ◌++◌, refl, ap, sym, subst, ◌∙◌, append-nil, append_assoc, arith, Option, Some, None, Result, Ok, Err}
+use Rattle.std.proofs.Common.{◌≡◌, ◌≤◌, false, List, [], ◌∷◌, ◌++◌, refl, ap, sym, subst, ◌∙◌, append-nil, append_assoc, arith, Option, Some, Result, Ok}
 use Rattle.fpc_base.specs.declared.refusal.Code.{Code}
 use Rattle.fpc_base.specs.declared.tokens.lexeme.Sign.TheVariants as sign
-use Rattle.fpc_base.specs.Lexeme.{Lexeme, a_sign, Item, says, fault}
+use Rattle.fpc_base.specs.Lexeme.{Lexeme, a_sign, Item, says}
 use Rattle.fpc_base.specs.Reading.{ReadsAll}
 use Rattle.fpc_base.specs.Reading as reading
 use Rattle.polarised_formulas.specs.declared.logic.Logic.{Logic}
 use Rattle.polarised_formulas.specs.declared.logic.Logic.TheVariants.{Lkf}
 use Rattle.formula_grammar.specs.Written.{WrittenFormula, formula_tokens, WrittenProblem, IsProblem, logic_word, IsBound, IsWrittenIn}
 use Rattle.formula_grammar.specs.Place.{whole, ProblemLimits}
-use Rattle.formula_grammar.specs.Machine.{FormulaState, wants, named, has, stuck, step, run, whole_of, is_deep, is_full, within, limited, ProblemState, start, reading as reading_of, finished, problem_of, problem_step, problem_run, limited_problem, read_within, dotted, dotted_within}
+use Rattle.formula_grammar.specs.Machine.{FormulaState, wants, stuck, step, run, whole_of, is_deep, is_full, within, limited, ProblemState, start, reading as reading_of, problem_of, problem_step, problem_run, limited_problem, read_within, dotted, dotted_within}
 use Rattle.formula_grammar.proofs.States.{IsLive}
 use Rattle.formula_grammar.proofs.Sound.{live-run}
 use Rattle.formula_grammar.proofs.Complete.{run-ends}

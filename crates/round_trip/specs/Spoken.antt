@@ -1,6 +1,6 @@
 -- Items that are tokens, without their places.
 use Rattle.std.specs.Prelude.{◌≡◌, List, [], ◌∷◌}
-use Rattle.fpc_base.specs.Lexeme.{Lexeme, Item, says, fault}
+use Rattle.fpc_base.specs.Lexeme.{Lexeme, Item, says}
 
 -- the items say these tokens, one after another, and none of them is a fault
 abbrev pub Says : List Lexeme → List Item → Type 0
