@@ -88,7 +88,7 @@ module _ (logic : Logic) (parameters : List (List ℕ)) where
         refl,
         not-equal (suc (length ds)) 255 (λ e. omega (arith, le, e)),
         fits-term t (in_term y (u ∷ ds) s) (more_tokens ts rest) k.0 (more-behind ts rest) small.0
-        (fits-more y (u ∷ ds) t ts s rest k.1 small.1 (omega (arith, le)) h),
+            (fits-more y (u ∷ ds) t ts s rest k.1 small.1 (omega (arith, le)) h),
       )
 
     fits-more_arguments : (ds : List WrittenTerm) (u : WrittenTerm) (ts : WrittenArgs) (rest : List Lexeme) → AreKnown known_here ts → AreSmall ts
@@ -99,7 +99,7 @@ module _ (logic : Logic) (parameters : List (List ℕ)) where
       refl,
       not-equal (suc (length ds)) 255 (λ e. omega (arith, le, e)),
       fits-term t (in_arguments (u ∷ ds)) (more_tokens ts rest) k.0 (more-behind ts rest) small.0
-      (fits-more_arguments (u ∷ ds) t ts rest k.1 small.1 (omega (arith, le)) h),
+          (fits-more_arguments (u ∷ ds) t ts rest k.1 small.1 (omega (arith, le)) h),
     )
 
     fits-no_arguments : (rest : List Lexeme) → IsBehind rest → Fits (has (literal positive x no_words) p) rest → Fits (named positive x p) rest
@@ -114,7 +114,7 @@ module _ (logic : Logic) (parameters : List (List ℕ)) where
       refl,
       refl,
       fits-term t (in_arguments []) (more_tokens ts rest) k.0 (more-behind ts rest) small.0
-      (fits-more_arguments [] t ts rest k.1 small.1 (omega (arith, le)) h),
+          (fits-more_arguments [] t ts rest k.1 small.1 (omega (arith, le)) h),
     )
 
   -- the first token of a formula that isn't too deep
@@ -172,8 +172,8 @@ module _ (logic : Logic) (parameters : List (List ℕ)) where
         not-deep logic parameters p (omega (arith, le)),
         refl,
         fits-formula a (in_first p) (a_sign (joiner_sign logic j) ∷ last) known.0 l.1 (joiner-behind logic j last) (omega (arith, le)) small.0
-        (fits-join j a p last l.0
-        (fits-formula c (in_second j a p) (a_sign sign.CloseParenthesis ∷ rest) known.1 l.2 tt (omega (arith, le)) small.1 (refl, refl, h))),
+            (fits-join j a p last l.0
+            (fits-formula c (in_second j a p) (a_sign sign.CloseParenthesis ∷ rest) known.1 l.2 tt (omega (arith, le)) small.1 (refl, refl, h))),
       )
   fits-formula (bind q x a) p rest known l b le small h =
       fits-binder q x p (formula_tokens logic a rest) (omega (arith, le))

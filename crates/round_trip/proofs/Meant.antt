@@ -13,7 +13,7 @@ use Rattle.fpc_base.specs.Tokens.{is_one_of, HasForm}
 use Rattle.fpc_base.specs.Lexeme.{a_sign}
 use Rattle.fpc_terms.specs.Term.{Term, Args, eigen, bound, variable, app, no_args, arg, Each, EachArg, Never}
 use Rattle.fpc_terms.specs.Text.{name_in}
-use Rattle.fpc_terms.specs.Name.{Agrees}
+use Rattle.fpc_terms.specs.Name.{Agrees, HasName}
 use Rattle.fpc_terms.specs.Written.{IsKnown, AreKnown, term_meant, args_meant}
 use Rattle.polarised_formulas.specs.declared.logic.Logic.{Logic}
 use Rattle.polarised_formulas.specs.declared.logic.Logic.TheVariants.{Lkf, Ljf}
@@ -21,6 +21,7 @@ use Rattle.polarised_formulas.specs.declared.logic.Polarity.TheVariants.{Positiv
 use Rattle.polarised_formulas.specs.Formula.{Formula, truth, falsity, atom, conj, disj, implies, for_all, exists, EachInside, Tied, IsClosed, IsOfLogic}
 use Rattle.formula_grammar.specs.Written.{formula_tokens, logic_word, is_known, IsBound, IsWrittenIn, index_in, variable_meant, formula_meant, IsProblem}
 use Rattle.round_trip.specs.WrittenOf.{bound_text, bound_scope, written_term, written_args, written_of, IsNamed, AreNamed, HasNames}
+use Rattle.round_trip.specs.EachName.{EachName, EachNameOf, EachNameIn}
 use Rattle.round_trip.specs.Size.{depth_of}
 
 -- the variables bound at different depths are different
@@ -103,6 +104,28 @@ module _ (names : List (List ℕ)) where
   IsWrittenIn-written_of Ljf d (for_all a) l = IsWrittenIn-written_of Ljf (suc d) a l
   IsWrittenIn-written_of Lkf d (exists a) l = IsWrittenIn-written_of Lkf (suc d) a l
   IsWrittenIn-written_of Ljf d (exists a) l = IsWrittenIn-written_of Ljf (suc d) a l
+
+  mutual
+    in_table-term : (d : ℕ) (t : Term) → Each Never (Tied d) Never t → IsNamed names t → EachName (HasName names) (written_term names d t)
+    in_table-term d (eigen n) tied named = absurd tied
+    in_table-term d (bound k) tied named = tt
+    in_table-term d (variable v) tied named = tt
+    in_table-term d (app f ts) tied named = ((f, name_in-stands names f named.0), in_table-args d ts tied named.1)
+
+    in_table-args : (d : ℕ) (ts : Args) → EachArg Never (Tied d) Never ts → AreNamed names ts → EachNameOf (HasName names) (written_args names d ts)
+    in_table-args d no_args tied named = tt
+    in_table-args d (arg t ts) tied named = (in_table-term d t tied.0 named.0, in_table-args d ts tied.1 named.1)
+
+  -- its names are in the table
+  pub EachNameIn-written_of : (d : ℕ) (f : Formula) → EachInside Never Tied Never d f → HasNames names f → EachNameIn (HasName names) (written_of names d f)
+  EachNameIn-written_of d (truth p) tied named = tt
+  EachNameIn-written_of d (falsity p) tied named = tt
+  EachNameIn-written_of d (atom positive f ts) tied named = ((f, name_in-stands names f named.0), in_table-args d ts tied named.1)
+  EachNameIn-written_of d (conj p a b) tied named = (EachNameIn-written_of d a tied.0 named.0, EachNameIn-written_of d b tied.1 named.1)
+  EachNameIn-written_of d (disj p a b) tied named = (EachNameIn-written_of d a tied.0 named.0, EachNameIn-written_of d b tied.1 named.1)
+  EachNameIn-written_of d (implies a b) tied named = (EachNameIn-written_of d a tied.0 named.0, EachNameIn-written_of d b tied.1 named.1)
+  EachNameIn-written_of d (for_all a) tied named = EachNameIn-written_of (suc d) a tied named
+  EachNameIn-written_of d (exists a) tied named = EachNameIn-written_of (suc d) a tied named
 
   -- the tokens of the written formula are those of a problem
   pub IsProblem-written_of : (logic : Logic) (f : Formula) → depth_of f ≤ 2 ^ 64 → IsClosed f → IsOfLogic logic f

@@ -22,10 +22,11 @@ use Rattle.formula_grammar.proofs.Sound.{live-run}
 use Rattle.formula_grammar.proofs.Complete.{joiner_of-joiner_sign, run-ends}
 use Rattle.formula_grammar.proofs.FormulaLaws.{whole-live}
 use Rattle.formula_grammar.proofs.ProblemLaws.{formula-append, step-dot, start-word, reading-step}
+use Rattle.round_trip.specs.RoundTrip.{IsBuilt}
 use Rattle.round_trip.specs.Spoken.{Says}
 use Rattle.round_trip.proofs.Small.{written_depth, words_count, IsSmall, AreSmall, HasSmall}
 use Rattle.round_trip.proofs.Fits.{Fits, less-than, joiner-behind}
-use Rattle.round_trip.proofs.Takes.{TakesAll, IsBuilt, Taken-read}
+use Rattle.round_trip.proofs.Takes.{TakesAll, IsBuilt-taken, Taken-read}
 
 module _ (logic : Logic) (parameters : List (List ℕ)) (positive : Bool) (x : List ℕ) (p : Place) where
   abbrev FitsIn : term.TermState → List Lexeme → Type 0
@@ -218,7 +219,7 @@ IsRead-read items w h =
       tokens = t.tokens;
       said = t.said;
       is_problem = t.is_whole;
-      is_built = takes.0;
+      is_built = IsBuilt-taken w.logic takes.0;
       deep = let d = in_limits.deep in omega (arith, d);
       small = in_limits.small;
     }

@@ -41,8 +41,8 @@ scans-piece kind b bs rest cs e h at =
     let d : drop n (b ∷ (bs ++ rest)) ≡ rest = drop-append_seam bs rest in
     rw (tokens_behind-front at (b ∷ (bs ++ rest)) (Piece kind n) f) (rw (t, d) (refl, h (at + n)))
   where
-  front-at : (c : ℕ) (r : List ℕ) → b ∷ (bs ++ rest) ≡ c ∷ r → Piece kind (suc (length bs)) ≡ front_of c r
-  front-at c r q = let i : b ≡ c = cc in let j : bs ++ rest ≡ r = cc in rw (← i, ← j) (sym e)
+    front-at : (c : ℕ) (r : List ℕ) → b ∷ (bs ++ rest) ≡ c ∷ r → Piece kind (suc (length bs)) ≡ front_of c r
+    front-at c r q = let i : b ≡ c = cc in let j : bs ++ rest ≡ r = cc in rw (← i, ← j) (sym e)
 
 -- a blank
 pub scans-blank : (rest : List ℕ) (cs : List Lexeme) → Scans cs rest → Scans cs (32 ∷ rest)

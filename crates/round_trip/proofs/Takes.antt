@@ -14,9 +14,10 @@ use Rattle.formula_grammar.proofs.States.{IsLive}
 use Rattle.formula_grammar.proofs.Sound.{live-run}
 use Rattle.formula_grammar.proofs.Complete.{run-ends}
 use Rattle.formula_grammar.proofs.FormulaLaws.{whole-live}
-use Rattle.formula_grammar.proofs.ProblemLaws.{formula-append, step-dot, start-word, reading-step, problem_behind, problem_behind-step, problem-finished}
+use Rattle.formula_grammar.proofs.ProblemLaws.{formula-append, step-dot, start-word, reading-step, problem_behind, problem_behind-step, problem-finished, step-begins_problem}
 use Rattle.formula_grammar.proofs.ProblemLimits.{problem_taken-told}
 use Rattle.formula_grammar.proofs.ProblemReading.{IsAt, IsAt-start, IsAt-taken, IsAt-done}
+use Rattle.round_trip.specs.RoundTrip.{IsBuilt}
 use Rattle.round_trip.specs.Spoken.{Says}
 use Rattle.round_trip.proofs.Small.{written_depth, HasSmall}
 use Rattle.round_trip.proofs.Fits.{Fits, fits-formula}
@@ -26,12 +27,20 @@ abbrev pub TakesAll : ProblemState → List Lexeme → Type 0
 TakesAll s [] = Unit {0}
 TakesAll s (c ∷ cs) = (limited_problem s c ≡ Ok (problem_step s c)) × TakesAll (problem_step s c) cs
 
--- problems of the logic are read
-abbrev pub IsBuilt : Logic → Type 0
-IsBuilt logic = limited_problem start (logic_word logic) ≡ Ok (problem_step start (logic_word logic))
+-- the word of a logic is taken exactly where no limit forbids it
+abbrev pub TakesWord : Logic → Type 0
+TakesWord logic = limited_problem start (logic_word logic) ≡ Ok (problem_step start (logic_word logic))
+
+pub IsBuilt-taken : (logic : Logic) → TakesWord logic → IsBuilt logic
+IsBuilt-taken logic e = ((problem_taken-told [] (logic_word logic) (problem_step start (logic_word logic))).0 e).0.free
+
+pub taken-IsBuilt : (logic : Logic) → IsBuilt logic → TakesWord logic
+taken-IsBuilt logic free =
+    (problem_taken-told [] (logic_word logic) (problem_step start (logic_word logic))).1
+    (record { begins = step-begins_problem [] (logic_word logic) (rw (start-word logic) tt); free = free }, refl)
 
 pub IsBuilt-Lkf : IsBuilt Lkf
-IsBuilt-Lkf = refl
+IsBuilt-Lkf = IsBuilt-taken Lkf refl
 
 at-taken : (items : List Item) (cs : List Lexeme) (rest : List Item) (s : ProblemState) → IsAt 0 items rest s → Says cs rest → TakesAll s cs
     → IsAt 0 items [] (problem_run s cs)
@@ -113,7 +122,7 @@ module _ (logic : Logic) where
       formula-append logic w [] (a_sign sign.Dot ∷ []) in
       let taken : TakesAll (reading_of logic (wants whole)) (formula_tokens logic w [] ++ a_sign sign.Dot ∷ []) =
       takes-tokens (formula_tokens logic w []) (wants whole) w (subst (Fits logic [] (wants whole)) append fits) (run-ends logic [] w whole known l) in
-      (built, subst (λ s. TakesAll s (formula_tokens logic w (a_sign sign.Dot ∷ []))) (sym (start-word logic)) (subst (TakesAll (reading_of logic (wants whole))) (sym append) taken))
+      (taken-IsBuilt logic built, subst (λ s. TakesAll s (formula_tokens logic w (a_sign sign.Dot ∷ []))) (sym (start-word logic)) (subst (TakesAll (reading_of logic (wants whole))) (sym append) taken))
 
   pub ReadsAll-written : (w : WrittenFormula) (items : List Item) → IsBuilt logic → IsBound [] [] w → IsWrittenIn logic w → written_depth w ≤ 10000 → HasSmall w
       → Says (logic_word logic ∷ formula_tokens logic w (a_sign sign.Dot ∷ [])) items

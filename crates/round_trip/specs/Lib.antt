@@ -2,3 +2,4 @@ pub mod WrittenOf
 pub mod Size
 pub mod Spoken
 pub mod EachName
+pub mod RoundTrip
