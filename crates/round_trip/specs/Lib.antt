@@ -1,0 +1,5 @@
+pub mod WrittenOf
+pub mod Size
+pub mod Spoken
+pub mod EachName
+pub mod RoundTrip

@@ -1,0 +1,2 @@
+//! What is printed of a problem is read back.
+#![tactic(auto)]
