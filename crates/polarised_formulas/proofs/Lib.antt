@@ -17,3 +17,13 @@ pub mod FormulaReading
 pub mod ProblemLaws
 pub mod ProblemLimits
 pub mod ProblemReading
+pub mod Pieces
+pub mod Scan
+pub mod Meant
+pub mod Small
+pub mod Fits
+pub mod Takes
+pub mod Passed
+pub mod Named
+pub mod Closed
+pub mod RoundTrip

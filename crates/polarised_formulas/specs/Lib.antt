@@ -9,3 +9,8 @@ pub mod Unfinished
 pub mod Written
 pub mod Place
 pub mod Machine
+pub mod WrittenOf
+pub mod Size
+pub mod Spoken
+pub mod EachName
+pub mod RoundTrip

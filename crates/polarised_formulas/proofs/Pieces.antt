@@ -15,8 +15,8 @@ use Rattle.fpc_base.specs.declared.tokens.lexeme.Sign.TheVariants as sign
 use Rattle.fpc_base.specs.Tokens.{is_small, is_capital, is_digit, is_word_byte, is_blank, is_one_of, unit_words, keywords, begins_with_sign, word_of, front_of, tokens_behind, is_word, is_variable, is_number, HasForm}
 use Rattle.fpc_base.specs.Lexeme.{Lexeme, a_name, a_variable, a_sign, lexeme_of, item_of}
 use Rattle.fpc_base.proofs.TokenLemmas.{IsFront, tokens_behind-front}
-use Rattle.round_trip.specs.WrittenOf.{bound_text}
-use Rattle.round_trip.specs.Spoken.{Says}
+use Rattle.polarised_formulas.specs.WrittenOf.{bound_text}
+use Rattle.polarised_formulas.specs.Spoken.{Says}
 
 -- the bytes, from any place on, say the tokens
 abbrev pub Scans : List Lexeme → List ℕ → Type 0

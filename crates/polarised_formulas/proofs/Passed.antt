@@ -11,22 +11,22 @@ use Rattle.polarised_formulas.specs.declared.logic.Logic.{Logic}
 use Rattle.polarised_formulas.specs.declared.logic.Logic.TheVariants.{Lkf, Ljf}
 use Rattle.polarised_formulas.specs.declared.logic.Polarity.{Polarity}
 use Rattle.polarised_formulas.specs.declared.logic.Polarity.TheVariants.{Positive, Negative}
-use Rattle.formula_grammar.specs.declared.connective.Joiner.{Joiner}
-use Rattle.formula_grammar.specs.declared.connective.Binder.{Binder}
-use Rattle.formula_grammar.specs.declared.connective.Binder.TheVariants.{ForAll, Exists}
-use Rattle.formula_grammar.specs.Written.{WrittenFormula, true_unit, false_unit, literal, pair, bind, formula_tokens, mark_tokens, joiner_sign, binder_sign, IsJoinerOf, IsFalseOf, IsBound, IsWrittenIn, is_known, WrittenProblem, IsProblem, logic_word}
-use Rattle.formula_grammar.specs.Place.{Place, whole, in_first, in_second, under, scope_at, nesting, ProblemLimits}
-use Rattle.formula_grammar.specs.Machine.{FormulaState, wants, named, in_atom, has, stuck, joined, within_atom, step, run, whole_of, is_deep, is_full, within, ProblemState, start, reading as reading_of, problem_step, limited_problem, read_within}
-use Rattle.formula_grammar.proofs.States.{IsLive}
-use Rattle.formula_grammar.proofs.Sound.{live-run}
-use Rattle.formula_grammar.proofs.Complete.{joiner_of-joiner_sign, run-ends}
-use Rattle.formula_grammar.proofs.FormulaLaws.{whole-live}
-use Rattle.formula_grammar.proofs.ProblemLaws.{formula-append, step-dot, start-word, reading-step}
-use Rattle.round_trip.specs.RoundTrip.{IsBuilt}
-use Rattle.round_trip.specs.Spoken.{Says}
-use Rattle.round_trip.proofs.Small.{written_depth, words_count, IsSmall, AreSmall, HasSmall}
-use Rattle.round_trip.proofs.Fits.{Fits, less-than, joiner-behind}
-use Rattle.round_trip.proofs.Takes.{TakesAll, IsBuilt-taken, Taken-read}
+use Rattle.polarised_formulas.specs.declared.connective.Joiner.{Joiner}
+use Rattle.polarised_formulas.specs.declared.connective.Binder.{Binder}
+use Rattle.polarised_formulas.specs.declared.connective.Binder.TheVariants.{ForAll, Exists}
+use Rattle.polarised_formulas.specs.Written.{WrittenFormula, true_unit, false_unit, literal, pair, bind, formula_tokens, mark_tokens, joiner_sign, binder_sign, IsJoinerOf, IsFalseOf, IsBound, IsWrittenIn, is_known, WrittenProblem, IsProblem, logic_word}
+use Rattle.polarised_formulas.specs.Place.{Place, whole, in_first, in_second, under, scope_at, nesting, ProblemLimits}
+use Rattle.polarised_formulas.specs.Machine.{FormulaState, wants, named, in_atom, has, stuck, joined, within_atom, step, run, whole_of, is_deep, is_full, within, ProblemState, start, reading as reading_of, problem_step, limited_problem, read_within}
+use Rattle.polarised_formulas.proofs.States.{IsLive}
+use Rattle.polarised_formulas.proofs.Sound.{live-run}
+use Rattle.polarised_formulas.proofs.Complete.{joiner_of-joiner_sign, run-ends}
+use Rattle.polarised_formulas.proofs.FormulaLaws.{whole-live}
+use Rattle.polarised_formulas.proofs.ProblemLaws.{formula-append, step-dot, start-word, reading-step}
+use Rattle.polarised_formulas.specs.RoundTrip.{IsBuilt}
+use Rattle.polarised_formulas.specs.Spoken.{Says}
+use Rattle.polarised_formulas.proofs.Small.{written_depth, words_count, IsSmall, AreSmall, HasSmall}
+use Rattle.polarised_formulas.proofs.Fits.{Fits, less-than}
+use Rattle.polarised_formulas.proofs.Takes.{TakesAll, IsBuilt-taken, Taken-read}
 
 module _ (logic : Logic) (parameters : List (List ℕ)) (positive : Bool) (x : List ℕ) (p : Place) where
   abbrev FitsIn : term.TermState → List Lexeme → Type 0

@@ -12,12 +12,12 @@ use Rattle.polarised_formulas.specs.declared.logic.Polarity.{Polarity}
 use Rattle.polarised_formulas.specs.declared.logic.Polarity.TheVariants.{Positive, Negative}
 use Rattle.polarised_formulas.specs.Formula.{Formula, truth, falsity, atom, conj, disj, implies, for_all, exists, EachInside, Tied, IsClosed}
 use Rattle.polarised_formulas.specs.Text.{named_leaves, named_style, formula_before, problem_text, logic_text, operator_before, conj_text, disj_text, truth_text, falsity_text, mark_text}
-use Rattle.formula_grammar.specs.declared.connective.Joiner.TheVariants.{And, Or}
-use Rattle.formula_grammar.specs.Written.{formula_tokens, joiner_sign, true_sign, false_sign, mark_tokens, logic_word}
-use Rattle.round_trip.specs.WrittenOf.{bound_text, written_term, written_args, written_of, IsNamed, AreNamed, HasNames}
-use Rattle.round_trip.specs.Size.{depth_of}
-use Rattle.round_trip.specs.Spoken.{Says}
-use Rattle.round_trip.proofs.Pieces.{Scans, stops, scans-name, scans-variable, scans-blank, scans-end, scans-open, scans-close, scans-comma, scans-dot, scans-tilde, scans-plus, scans-minus, scans-colon, scans-all, scans-some, scans-true_plus, scans-true_minus, scans-false_plus, scans-false_minus, scans-false, scans-and_plus, scans-and_minus, scans-bar_plus, scans-bar_minus, scans-bar, scans-arrow}
+use Rattle.polarised_formulas.specs.declared.connective.Joiner.TheVariants.{And, Or}
+use Rattle.polarised_formulas.specs.Written.{formula_tokens, joiner_sign, true_sign, false_sign, mark_tokens, logic_word}
+use Rattle.polarised_formulas.specs.WrittenOf.{bound_text, written_term, written_args, written_of, IsNamed, AreNamed, HasNames}
+use Rattle.polarised_formulas.specs.Size.{depth_of}
+use Rattle.polarised_formulas.specs.Spoken.{Says}
+use Rattle.polarised_formulas.proofs.Pieces.{Scans, stops, scans-name, scans-variable, scans-blank, scans-end, scans-open, scans-close, scans-comma, scans-dot, scans-tilde, scans-plus, scans-minus, scans-colon, scans-all, scans-some, scans-true_plus, scans-true_minus, scans-false_plus, scans-false_minus, scans-false, scans-and_plus, scans-and_minus, scans-bar_plus, scans-bar_minus, scans-bar, scans-arrow}
 
 module _ (names : List (List ℕ)) where
   more-stop : (leaves : Leaves) (ts : Args) (rest : List ℕ) → stops (more_before leaves ts rest) ≡ true

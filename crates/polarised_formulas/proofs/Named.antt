@@ -12,9 +12,9 @@ use Rattle.fpc_base.proofs.LongestToken.{IsLongest-front_of}
 use Rattle.fpc_terms.specs.Written.{WrittenTerm, WrittenArgs, variable_word, application, no_words, words, term_tokens, args_tokens, more_tokens}
 use Rattle.polarised_formulas.specs.declared.logic.Logic.{Logic}
 use Rattle.polarised_formulas.specs.declared.logic.Logic.TheVariants.{Lkf, Ljf}
-use Rattle.formula_grammar.specs.Written.{WrittenFormula, true_unit, false_unit, literal, pair, bind, formula_tokens, mark_tokens, joiner_sign, logic_word}
-use Rattle.round_trip.specs.EachName.{EachName, EachNameOf, EachNameIn}
-use Rattle.round_trip.specs.Spoken.{Says}
+use Rattle.polarised_formulas.specs.Written.{WrittenFormula, true_unit, false_unit, literal, pair, bind, formula_tokens, mark_tokens, joiner_sign, logic_word}
+use Rattle.polarised_formulas.specs.EachName.{EachName, EachNameOf, EachNameIn}
+use Rattle.polarised_formulas.specs.Spoken.{Says}
 
 -- each token has its form
 abbrev AreFormed : List Scanned → Type 0

@@ -8,19 +8,19 @@ use Rattle.polarised_formulas.specs.declared.logic.Logic.{Logic}
 use Rattle.polarised_formulas.specs.declared.logic.Logic.TheVariants.{Lkf}
 use Rattle.polarised_formulas.specs.Formula.{Formula}
 use Rattle.polarised_formulas.specs.Text.{problem_text}
-use Rattle.formula_grammar.specs.Written.{WrittenFormula, formula_tokens, formula_meant, IsProblem, logic_word}
-use Rattle.formula_grammar.specs.Place.{ProblemLimits}
-use Rattle.round_trip.specs.WrittenOf.{written_of}
-use Rattle.round_trip.specs.Spoken.{Says}
-use Rattle.round_trip.specs.EachName.{EachNameIn}
-use Rattle.round_trip.specs.RoundTrip.{IsPrintable, IsBuilt, ReadsAs, TextIsScanned, TextIsRead, ReadIsPrintable, ReadIsReadBack}
-use Rattle.round_trip.proofs.Scan.{Says-problem_text}
-use Rattle.round_trip.proofs.Meant.{formula_meant-written_of, EachNameIn-written_of, IsBound-written_of, IsWrittenIn-written_of}
-use Rattle.round_trip.proofs.Small.{written_depth-written_of, HasSmall-written_of, depth_of-formula_meant, HasFewArguments-formula_meant}
-use Rattle.round_trip.proofs.Takes.{IsBuilt-Lkf, ReadsAll-written}
-use Rattle.round_trip.proofs.Passed.{IsRead-read}
-use Rattle.round_trip.proofs.Named.{EachName-said}
-use Rattle.round_trip.proofs.Closed.{IsClosed-formula_meant, IsOfLogic-formula_meant, HasNames-formula_meant}
+use Rattle.polarised_formulas.specs.Written.{WrittenFormula, formula_tokens, formula_meant, IsProblem, logic_word}
+use Rattle.polarised_formulas.specs.Place.{ProblemLimits}
+use Rattle.polarised_formulas.specs.WrittenOf.{written_of}
+use Rattle.polarised_formulas.specs.Spoken.{Says}
+use Rattle.polarised_formulas.specs.EachName.{EachNameIn}
+use Rattle.polarised_formulas.specs.RoundTrip.{IsPrintable, IsBuilt, ReadsAs, TextIsScanned, TextIsRead, ReadIsPrintable, ReadIsReadBack}
+use Rattle.polarised_formulas.proofs.Scan.{Says-problem_text}
+use Rattle.polarised_formulas.proofs.Meant.{formula_meant-written_of, EachNameIn-written_of, IsBound-written_of, IsWrittenIn-written_of}
+use Rattle.polarised_formulas.proofs.Small.{written_depth-written_of, HasSmall-written_of, depth_of-formula_meant, HasFewArguments-formula_meant}
+use Rattle.polarised_formulas.proofs.Takes.{IsBuilt-Lkf, ReadsAll-written}
+use Rattle.polarised_formulas.proofs.Passed.{IsRead-read}
+use Rattle.polarised_formulas.proofs.Named.{EachName-said}
+use Rattle.polarised_formulas.proofs.Closed.{IsClosed-formula_meant, IsOfLogic-formula_meant, HasNames-formula_meant}
 
 -- the text of a problem says its tokens
 pub text-scanned : TextIsScanned

@@ -7,9 +7,9 @@ use Rattle.fpc_terms.specs.Term.{Term, Args, eigen, bound, variable, app, no_arg
 use Rattle.fpc_terms.specs.Text.{name_in}
 use Rattle.fpc_terms.specs.Written.{WrittenTerm, WrittenArgs, variable_word, application, no_words, words}
 use Rattle.polarised_formulas.specs.Formula.{Formula, truth, falsity, atom, conj, disj, implies, for_all, exists}
-use Rattle.formula_grammar.specs.declared.connective.Joiner.TheVariants.{And, Or, Implies}
-use Rattle.formula_grammar.specs.declared.connective.Binder.TheVariants.{ForAll, Exists}
-use Rattle.formula_grammar.specs.Written.{WrittenFormula, true_unit, false_unit, literal, pair, bind}
+use Rattle.polarised_formulas.specs.declared.connective.Joiner.TheVariants.{And, Or, Implies}
+use Rattle.polarised_formulas.specs.declared.connective.Binder.TheVariants.{ForAll, Exists}
+use Rattle.polarised_formulas.specs.Written.{WrittenFormula, true_unit, false_unit, literal, pair, bind}
 
 -- the variable that a quantifier under j others binds
 abbrev pub bound_text : ℕ → List ℕ

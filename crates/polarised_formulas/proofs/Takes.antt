@@ -7,20 +7,20 @@ use Rattle.fpc_base.specs.Reading.{ReadsAll}
 use Rattle.fpc_base.specs.Reading as reading
 use Rattle.polarised_formulas.specs.declared.logic.Logic.{Logic}
 use Rattle.polarised_formulas.specs.declared.logic.Logic.TheVariants.{Lkf}
-use Rattle.formula_grammar.specs.Written.{WrittenFormula, formula_tokens, WrittenProblem, IsProblem, logic_word, IsBound, IsWrittenIn}
-use Rattle.formula_grammar.specs.Place.{whole, ProblemLimits}
-use Rattle.formula_grammar.specs.Machine.{FormulaState, wants, stuck, step, run, whole_of, is_deep, is_full, within, limited, ProblemState, start, reading as reading_of, problem_of, problem_step, problem_run, limited_problem, read_within, dotted, dotted_within}
-use Rattle.formula_grammar.proofs.States.{IsLive}
-use Rattle.formula_grammar.proofs.Sound.{live-run}
-use Rattle.formula_grammar.proofs.Complete.{run-ends}
-use Rattle.formula_grammar.proofs.FormulaLaws.{whole-live}
-use Rattle.formula_grammar.proofs.ProblemLaws.{formula-append, step-dot, start-word, reading-step, problem_behind, problem_behind-step, problem-finished, step-begins_problem}
-use Rattle.formula_grammar.proofs.ProblemLimits.{problem_taken-told}
-use Rattle.formula_grammar.proofs.ProblemReading.{IsAt, IsAt-start, IsAt-taken, IsAt-done}
-use Rattle.round_trip.specs.RoundTrip.{IsBuilt}
-use Rattle.round_trip.specs.Spoken.{Says}
-use Rattle.round_trip.proofs.Small.{written_depth, HasSmall}
-use Rattle.round_trip.proofs.Fits.{Fits, fits-formula}
+use Rattle.polarised_formulas.specs.Written.{WrittenFormula, formula_tokens, WrittenProblem, IsProblem, logic_word, IsBound, IsWrittenIn}
+use Rattle.polarised_formulas.specs.Place.{whole, ProblemLimits}
+use Rattle.polarised_formulas.specs.Machine.{FormulaState, wants, stuck, step, run, whole_of, is_deep, is_full, within, limited, ProblemState, start, reading as reading_of, problem_of, problem_step, problem_run, limited_problem, read_within, dotted, dotted_within}
+use Rattle.polarised_formulas.proofs.States.{IsLive}
+use Rattle.polarised_formulas.proofs.Sound.{live-run}
+use Rattle.polarised_formulas.proofs.Complete.{run-ends}
+use Rattle.polarised_formulas.proofs.FormulaLaws.{whole-live}
+use Rattle.polarised_formulas.proofs.ProblemLaws.{formula-append, step-dot, start-word, reading-step, problem_behind, problem_behind-step, problem-finished, step-begins_problem}
+use Rattle.polarised_formulas.proofs.ProblemLimits.{problem_taken-told}
+use Rattle.polarised_formulas.proofs.ProblemReading.{IsAt, IsAt-start, IsAt-taken, IsAt-done}
+use Rattle.polarised_formulas.specs.RoundTrip.{IsBuilt}
+use Rattle.polarised_formulas.specs.Spoken.{Says}
+use Rattle.polarised_formulas.proofs.Small.{written_depth, HasSmall}
+use Rattle.polarised_formulas.proofs.Fits.{Fits, fits-formula}
 
 -- the machine takes each of the tokens
 abbrev pub TakesAll : ProblemState → List Lexeme → Type 0

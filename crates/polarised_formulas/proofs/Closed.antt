@@ -12,13 +12,13 @@ use Rattle.polarised_formulas.specs.declared.logic.Logic.{Logic}
 use Rattle.polarised_formulas.specs.declared.logic.Logic.TheVariants.{Lkf, Ljf}
 use Rattle.polarised_formulas.specs.declared.logic.Polarity.TheVariants.{Positive, Negative}
 use Rattle.polarised_formulas.specs.Formula.{Formula, EachInside, Tied, IsClosed, IsOfLogic}
-use Rattle.formula_grammar.specs.declared.connective.Joiner.{Joiner}
-use Rattle.formula_grammar.specs.declared.connective.Joiner.TheVariants.{And, Or, Implies}
-use Rattle.formula_grammar.specs.declared.connective.Binder.{Binder}
-use Rattle.formula_grammar.specs.declared.connective.Binder.TheVariants.{ForAll, Exists}
-use Rattle.formula_grammar.specs.Written.{WrittenFormula, true_unit, false_unit, literal, pair, bind, is_known, IsBound, IsWrittenIn, IsJoinerOf, index_in, variable_meant, formula_meant, joined_by, bound_by}
-use Rattle.round_trip.specs.WrittenOf.{IsNamed, AreNamed, HasNames}
-use Rattle.round_trip.specs.EachName.{EachName, EachNameOf, EachNameIn}
+use Rattle.polarised_formulas.specs.declared.connective.Joiner.{Joiner}
+use Rattle.polarised_formulas.specs.declared.connective.Joiner.TheVariants.{And, Or, Implies}
+use Rattle.polarised_formulas.specs.declared.connective.Binder.{Binder}
+use Rattle.polarised_formulas.specs.declared.connective.Binder.TheVariants.{ForAll, Exists}
+use Rattle.polarised_formulas.specs.Written.{WrittenFormula, true_unit, false_unit, literal, pair, bind, is_known, IsBound, IsWrittenIn, IsJoinerOf, index_in, variable_meant, formula_meant, joined_by, bound_by}
+use Rattle.polarised_formulas.specs.WrittenOf.{IsNamed, AreNamed, HasNames}
+use Rattle.polarised_formulas.specs.EachName.{EachName, EachNameOf, EachNameIn}
 
 or-false : (a : Bool) → (a || false) ≡ true → a ≡ true
 or-false true h = refl

@@ -1,7 +1,7 @@
 -- What holds of each name of a written formula.
 use Rattle.std.specs.Prelude.{ℕ, List}
 use Rattle.fpc_terms.specs.Written.{WrittenTerm, WrittenArgs, variable_word, application, no_words, words}
-use Rattle.formula_grammar.specs.Written.{WrittenFormula, true_unit, false_unit, literal, pair, bind}
+use Rattle.polarised_formulas.specs.Written.{WrittenFormula, true_unit, false_unit, literal, pair, bind}
 
 abbrev mutual
   -- each name of the written term is as the predicate says

@@ -9,12 +9,12 @@ use Rattle.polarised_formulas.specs.declared.logic.Logic.{Logic}
 use Rattle.polarised_formulas.specs.declared.logic.Logic.TheVariants.{Lkf}
 use Rattle.polarised_formulas.specs.Formula.{Formula, IsClosed, IsOfLogic}
 use Rattle.polarised_formulas.specs.Text.{problem_text}
-use Rattle.formula_grammar.specs.Written.{WrittenFormula, formula_tokens, formula_meant, logic_word, IsProblem}
-use Rattle.formula_grammar.specs.Place.{ProblemLimits}
-use Rattle.round_trip.specs.WrittenOf.{written_of, HasNames}
-use Rattle.round_trip.specs.Size.{depth_of, HasFewArguments}
-use Rattle.round_trip.specs.Spoken.{Says}
-use Rattle.round_trip.specs.EachName.{EachNameIn}
+use Rattle.polarised_formulas.specs.Written.{WrittenFormula, formula_tokens, formula_meant, logic_word, IsProblem}
+use Rattle.polarised_formulas.specs.Place.{ProblemLimits}
+use Rattle.polarised_formulas.specs.WrittenOf.{written_of, HasNames}
+use Rattle.polarised_formulas.specs.Size.{depth_of, HasFewArguments}
+use Rattle.polarised_formulas.specs.Spoken.{Says}
+use Rattle.polarised_formulas.specs.EachName.{EachNameIn}
 
 -- a problem of the logic within the limits, whose names are numbers in the table
 pub record IsPrintable (names : List (List ℕ)) (logic : Logic) (f : Formula) : Type 0 where

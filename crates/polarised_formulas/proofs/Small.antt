@@ -4,13 +4,13 @@ use Rattle.fpc_base.specs.Tokens.{is_one_of}
 use Rattle.fpc_terms.specs.Term.{Term, Args, eigen, bound, variable, app, no_args, arg, count}
 use Rattle.fpc_terms.specs.Written.{WrittenTerm, WrittenArgs, variable_word, application, no_words, words, term_meant, args_meant}
 use Rattle.polarised_formulas.specs.Formula.{Formula, truth, falsity, atom, conj, disj, implies, for_all, exists}
-use Rattle.formula_grammar.specs.declared.connective.Joiner.{Joiner}
-use Rattle.formula_grammar.specs.declared.connective.Joiner.TheVariants.{And, Or, Implies}
-use Rattle.formula_grammar.specs.declared.connective.Binder.{Binder}
-use Rattle.formula_grammar.specs.declared.connective.Binder.TheVariants.{ForAll, Exists}
-use Rattle.formula_grammar.specs.Written.{WrittenFormula, true_unit, false_unit, literal, pair, bind, index_in, variable_meant, formula_meant, joined_by, bound_by}
-use Rattle.round_trip.specs.WrittenOf.{written_term, written_args, written_of}
-use Rattle.round_trip.specs.Size.{depth_of, HasFew, AllHaveFew, HasFewArguments}
+use Rattle.polarised_formulas.specs.declared.connective.Joiner.{Joiner}
+use Rattle.polarised_formulas.specs.declared.connective.Joiner.TheVariants.{And, Or, Implies}
+use Rattle.polarised_formulas.specs.declared.connective.Binder.{Binder}
+use Rattle.polarised_formulas.specs.declared.connective.Binder.TheVariants.{ForAll, Exists}
+use Rattle.polarised_formulas.specs.Written.{WrittenFormula, true_unit, false_unit, literal, pair, bind, index_in, variable_meant, formula_meant, joined_by, bound_by}
+use Rattle.polarised_formulas.specs.WrittenOf.{written_term, written_args, written_of}
+use Rattle.polarised_formulas.specs.Size.{depth_of, HasFew, AllHaveFew, HasFewArguments}
 
 -- how deep the written formula is nested
 abbrev pub written_depth : WrittenFormula → ℕ

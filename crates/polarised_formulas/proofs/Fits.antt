@@ -12,15 +12,15 @@ use Rattle.polarised_formulas.specs.declared.logic.Logic.{Logic}
 use Rattle.polarised_formulas.specs.declared.logic.Logic.TheVariants.{Lkf, Ljf}
 use Rattle.polarised_formulas.specs.declared.logic.Polarity.{Polarity}
 use Rattle.polarised_formulas.specs.declared.logic.Polarity.TheVariants.{Positive, Negative}
-use Rattle.formula_grammar.specs.declared.connective.Joiner.{Joiner}
-use Rattle.formula_grammar.specs.declared.connective.Joiner.TheVariants.{And, Or, Implies}
-use Rattle.formula_grammar.specs.declared.connective.Binder.{Binder}
-use Rattle.formula_grammar.specs.declared.connective.Binder.TheVariants.{ForAll, Exists}
-use Rattle.formula_grammar.specs.Written.{WrittenFormula, true_unit, false_unit, literal, pair, bind, formula_tokens, mark_tokens, joiner_sign, binder_sign, IsJoinerOf, IsFalseOf, IsBound, IsWrittenIn, is_known}
-use Rattle.formula_grammar.specs.Place.{Place, in_first, in_second, under, scope_at, nesting}
-use Rattle.formula_grammar.specs.Machine.{FormulaState, wants, named, in_atom, has, joined, joiner_of, within_atom, step, is_deep, is_full}
-use Rattle.formula_grammar.proofs.Complete.{joiner_of-joiner_sign}
-use Rattle.round_trip.proofs.Small.{written_depth, words_count, IsSmall, AreSmall, HasSmall}
+use Rattle.polarised_formulas.specs.declared.connective.Joiner.{Joiner}
+use Rattle.polarised_formulas.specs.declared.connective.Joiner.TheVariants.{And, Or, Implies}
+use Rattle.polarised_formulas.specs.declared.connective.Binder.{Binder}
+use Rattle.polarised_formulas.specs.declared.connective.Binder.TheVariants.{ForAll, Exists}
+use Rattle.polarised_formulas.specs.Written.{WrittenFormula, true_unit, false_unit, literal, pair, bind, formula_tokens, mark_tokens, joiner_sign, binder_sign, IsJoinerOf, IsFalseOf, IsBound, IsWrittenIn, is_known}
+use Rattle.polarised_formulas.specs.Place.{Place, in_first, in_second, under, scope_at, nesting}
+use Rattle.polarised_formulas.specs.Machine.{FormulaState, wants, named, in_atom, has, joined, joiner_of, within_atom, step, is_deep, is_full}
+use Rattle.polarised_formulas.proofs.Complete.{joiner_of-joiner_sign, joiner-behind}
+use Rattle.polarised_formulas.proofs.Small.{written_depth, words_count, IsSmall, AreSmall, HasSmall}
 
 not-equal : (a b : ℕ) → (a ≡ b → ⊥) → nat_eq a b ≡ false
 not-equal a b h = grind (arith, nat_tests)
@@ -28,14 +28,7 @@ not-equal a b h = grind (arith, nat_tests)
 pub less-than : (a b : ℕ) → nat_eq a b ≡ false → a ≤ b → a < b
 less-than a b h le = grind (arith, nat_tests)
 
-pub joiner-behind : (logic : Logic) (j : Joiner) (rest : List Lexeme) → IsBehind (a_sign (joiner_sign logic j) ∷ rest)
-joiner-behind logic (And Positive) rest = tt
-joiner-behind logic (And Negative) rest = tt
-joiner-behind Lkf (Or Positive) rest = tt
-joiner-behind Lkf (Or Negative) rest = tt
-joiner-behind Ljf (Or Positive) rest = tt
-joiner-behind Ljf (Or Negative) rest = tt
-joiner-behind logic Implies rest = tt
+pub 
 
 module _ (logic : Logic) (parameters : List (List ℕ)) where
   -- no limit forbids any of the tokens from the state on

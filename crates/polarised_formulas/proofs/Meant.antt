@@ -19,10 +19,10 @@ use Rattle.polarised_formulas.specs.declared.logic.Logic.{Logic}
 use Rattle.polarised_formulas.specs.declared.logic.Logic.TheVariants.{Lkf, Ljf}
 use Rattle.polarised_formulas.specs.declared.logic.Polarity.TheVariants.{Positive, Negative}
 use Rattle.polarised_formulas.specs.Formula.{Formula, truth, falsity, atom, conj, disj, implies, for_all, exists, EachInside, Tied, IsClosed, IsOfLogic}
-use Rattle.formula_grammar.specs.Written.{formula_tokens, logic_word, is_known, IsBound, IsWrittenIn, index_in, variable_meant, formula_meant, IsProblem}
-use Rattle.round_trip.specs.WrittenOf.{bound_text, bound_scope, written_term, written_args, written_of, IsNamed, AreNamed, HasNames}
-use Rattle.round_trip.specs.EachName.{EachName, EachNameOf, EachNameIn}
-use Rattle.round_trip.specs.Size.{depth_of}
+use Rattle.polarised_formulas.specs.Written.{formula_tokens, logic_word, is_known, IsBound, IsWrittenIn, index_in, variable_meant, formula_meant, IsProblem}
+use Rattle.polarised_formulas.specs.WrittenOf.{bound_text, bound_scope, written_term, written_args, written_of, IsNamed, AreNamed, HasNames}
+use Rattle.polarised_formulas.specs.EachName.{EachName, EachNameOf, EachNameIn}
+use Rattle.polarised_formulas.specs.Size.{depth_of}
 
 -- the variables bound at different depths are different
 bound_text-differ : (j k : ℕ) → j < 2 ^ 64 → k < 2 ^ 64 → (j ≡ k → ⊥) → bytes_eq (bound_text j) (bound_text k) ≡ false

@@ -1,2 +1,0 @@
-//! What is printed of a problem is read back.
-#![tactic(auto)]
