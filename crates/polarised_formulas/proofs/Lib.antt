@@ -27,3 +27,4 @@ pub mod Passed
 pub mod Named
 pub mod Closed
 pub mod RoundTrip
+pub mod FormulaNames
