@@ -19,7 +19,7 @@ use Rattle.polarised_formulas.specs.Place.{Place, whole, in_first, in_second, un
 use Rattle.polarised_formulas.specs.Machine.{FormulaState, wants, named, in_atom, has, stuck, joined, within_atom, step, run, whole_of, is_deep, is_full, within, ProblemState, start, reading as reading_of, problem_step, limited_problem, read_within}
 use Rattle.polarised_formulas.proofs.States.{IsLive}
 use Rattle.polarised_formulas.proofs.Sound.{live-run}
-use Rattle.polarised_formulas.proofs.Complete.{joiner_of-joiner_sign, run-ends}
+use Rattle.polarised_formulas.proofs.Complete.{joiner_of-joiner_sign, joiner-behind, run-ends}
 use Rattle.polarised_formulas.proofs.FormulaLaws.{whole-live}
 use Rattle.polarised_formulas.proofs.ProblemLaws.{formula-append, step-dot, start-word, reading-step}
 use Rattle.polarised_formulas.specs.RoundTrip.{IsBuilt}
