@@ -6,7 +6,7 @@ use Rattle.std.proofs.Common.{ap, sym, ◌∙◌, subst, arith, inl, inr}
 use Rattle.std.proofs.lemmas.Bool.{cases_Bool}
 use Rattle.fpc_base.specs.Tokens.{is_one_of}
 use Rattle.fpc_terms.specs.Name.{Agrees, AreDifferent, index_in}
-use Rattle.fpc_terms.specs.Term.{Term, Args, app, no_args, arg}
+use Rattle.fpc_terms.specs.Term.{Term, Args, app, arg}
 use Rattle.fpc_terms.specs.Printing.{HasNamesBelow, HaveNamesBelow}
 use Rattle.fpc_terms.specs.Written.{WrittenTerm, WrittenArgs, variable_word, application, no_words, words, term_meant, args_meant}
 use Rattle.fpc_terms.proofs.Places.{is_one_of-got, got-index_in, index_in-different}
@@ -57,16 +57,18 @@ module _ (names : List (List ℕ)) (d : AreDifferent names) (leaf : List ℕ →
     pub term-below : (w : WrittenTerm) → ((number : List ℕ → ℕ) → Agrees number names → term_meant number leaf w ≡ term_meant (index_in names) leaf w)
         → HasNamesBelow (length names) (term_meant (index_in names) leaf w)
     term-below (variable_word x) h = plain x
-    term-below (application x ts) h =
-        (number-below names x d (λ number a. app-name (number x) (index_in names x) (args_meant number leaf ts) (args_meant (index_in names) leaf ts) (h number a)),
-         args-below ts (λ number a. app-args (number x) (index_in names x) (args_meant number leaf ts) (args_meant (index_in names) leaf ts) (h number a)))
+    term-below (application x ts) h = (
+      number-below names x d (λ number a. app-name (number x) (index_in names x) (args_meant number leaf ts) (args_meant (index_in names) leaf ts) (h number a)),
+      args-below ts (λ number a. app-args (number x) (index_in names x) (args_meant number leaf ts) (args_meant (index_in names) leaf ts) (h number a)),
+    )
 
     pub args-below : (ts : WrittenArgs) → ((number : List ℕ → ℕ) → Agrees number names → args_meant number leaf ts ≡ args_meant (index_in names) leaf ts)
         → HaveNamesBelow (length names) (args_meant (index_in names) leaf ts)
     args-below no_words h = tt
-    args-below (words t ts) h =
-        (term-below t (λ number a. arg-first (term_meant number leaf t) (term_meant (index_in names) leaf t) (args_meant number leaf ts) (args_meant (index_in names) leaf ts) (h number a)),
-         args-below ts (λ number a. arg-rest (term_meant number leaf t) (term_meant (index_in names) leaf t) (args_meant number leaf ts) (args_meant (index_in names) leaf ts) (h number a)))
+    args-below (words t ts) h = (
+      term-below t (λ number a. arg-first (term_meant number leaf t) (term_meant (index_in names) leaf t) (args_meant number leaf ts) (args_meant (index_in names) leaf ts) (h number a)),
+      args-below ts (λ number a. arg-rest (term_meant number leaf t) (term_meant (index_in names) leaf t) (args_meant number leaf ts) (args_meant (index_in names) leaf ts) (h number a)),
+    )
 
   pub told-below : (t : Term) (w : WrittenTerm) → Agrees (index_in names) names → ((number : List ℕ → ℕ) → Agrees number names → t ≡ term_meant number leaf w) → HasNamesBelow (length names) t
   told-below t w own h = rw (h (index_in names) own) (term-below w (λ number a. sym (h number a) ∙ h (index_in names) own))

@@ -1,6 +1,6 @@
 -- How a token is taken with tables of names and variables that grow.
 use Rattle.std.specs.Prelude.{◌≡◌, ℕ, Bool, true, false, List, [], ◌∷◌, Option, Some, None, Result, Ok, Err, refl, slice_get, is_some, not, ◌&&◌}
-use Rattle.std.proofs.Common.{ap, sym, ◌∙◌, subst, ◌⊎◌, inl, inr}
+use Rattle.std.proofs.Common.{ap, sym, subst, ◌⊎◌, inl, inr}
 use Rattle.fpc_base.specs.declared.refusal.Code.{Code}
 use Rattle.fpc_base.specs.declared.refusal.Code.TheVariants.{Unexpected, ManyVariables}
 use Rattle.fpc_base.specs.declared.refusal.Refusal.{Refusal}
@@ -9,11 +9,11 @@ use Rattle.fpc_base.specs.declared.tokens.lexeme.Sign.TheVariants.{OpenParenthes
 use Rattle.fpc_base.specs.declared.refusal.TokenRefusal.{TokenRefusal}
 use Rattle.fpc_base.specs.declared.refusal.TokenRefusal.TheVariants.{Refused, OutOfMemory}
 use Rattle.fpc_base.specs.declared.tokens.lexeme.Lexeme as code
-use Rattle.fpc_base.specs.Lexeme.{Lexeme, a_name, a_variable, a_number, a_sign, unused, lexeme_as, Item, says, fault}
-use Rattle.fpc_base.specs.Reading.{ReadsFront, RefusesFront}
+use Rattle.fpc_base.specs.Lexeme.{Lexeme, a_variable, a_sign, lexeme_as, Item, says, fault}
+use Rattle.fpc_base.specs.Reading.{ReadsFront}
 use Rattle.fpc_base.specs.Refusal.{placed}
 use Rattle.std.proofs.lemmas.Bool.{and_parts}
-use Rattle.fpc_terms.specs.Name.{Agrees, Grows, AreDifferent, index_in, with_text}
+use Rattle.fpc_terms.specs.Name.{Agrees, Grows, AreDifferent, index_in}
 use Rattle.fpc_terms.specs.Term.{Term, variable}
 use Rattle.fpc_terms.specs.Written.{WrittenTerm, IsTerm, variable_word, application, no_words, variables_in}
 use Rattle.fpc_terms.specs.Spot.{Spot, alone, in_arguments, in_term, TermLimits}
@@ -42,11 +42,16 @@ same-state known next t u e f = cc
 pub told-for : (result : Result (Unit {0}) TokenRefusal) (names vars : List (List ℕ)) (next : Result TermState Code) (r : TermReader) → AreDifferent names → AreDifferent vars
     → ((number numbers : List ℕ → ℕ) → Agrees number names → Agrees numbers vars → Takes result number (numbered numbers) next r) → TakesFor result names vars next r
 told-for (Ok u) names vars next r dn dv h =
-    let first : (t : TermState) × ((next ≡ Ok t) × Holds (index_in names) (numbered (index_in vars)) t r) = h (index_in names) (index_in vars) (Agrees-index_in names dn) (Agrees-index_in vars dv) in
-    (first.0, (first.1.0, λ number numbers an av.
-      (let other : (t : TermState) × ((next ≡ Ok t) × Holds number (numbered numbers) t r) = h number numbers an av in
-       let e : other.0 ≡ first.0 = same-state any_variable next first.0 other.0 first.1.0 other.1.0 in
-       subst (λ (t : TermState). Holds number (numbered numbers) t r) e other.1.1)))
+    let first : (t : TermState) × ((next ≡ Ok t) × Holds (index_in names) (numbered (index_in vars)) t r) = h (index_in names) (index_in vars) (Agrees-index_in names dn) (Agrees-index_in vars dv) in (
+      first.0,
+      (
+        first.1.0,
+        λ number numbers an av.
+            (let other : (t : TermState) × ((next ≡ Ok t) × Holds number (numbered numbers) t r) = h number numbers an av in
+            let e : other.0 ≡ first.0 = same-state any_variable next first.0 other.0 first.1.0 other.1.0 in
+            subst (λ (t : TermState). Holds number (numbered numbers) t r) e other.1.1),
+      ),
+    )
 told-for (Err (Refused code)) names vars next r dn dv h = h (index_in names) (index_in vars) (Agrees-index_in names dn) (Agrees-index_in vars dv)
 told-for (Err OutOfMemory) names vars next r dn dv h = tt
 
@@ -68,19 +73,19 @@ pub taken-other : (result : Result (Unit {0}) TokenRefusal) (most : Option ℕ) 
     → HoldsFor names vars s old → TakesFor result more vars (limited any_variable most vars s (lexeme_as c)) new
 taken-other result most names more vars s c old new dn dv g v h holds =
     told-for result more vars (limited any_variable most vars s (lexeme_as c)) new dn dv
-      (λ number numbers an av. subst (λ (o : Result TermState Code). Takes result number (numbered numbers) o new) (few-same most vars s (lexeme_as c) (not-too_many most vars c v))
-        (h number (numbered numbers) any_variable s an (holds number numbers (λ k text e. an k text (g k text e)) av) v))
+    (λ number numbers an av. subst (λ (o : Result TermState Code). Takes result number (numbered numbers) o new) (few-same most vars s (lexeme_as c) (not-too_many most vars c v))
+    (h number (numbered numbers) any_variable s an (holds number numbers (λ k text e. an k text (g k text e)) av) v))
 
 -- a variable that gets its number
 pub taken-variable : (result : Result (Unit {0}) TokenRefusal) (most : Option ℕ) (names vars further : List (List ℕ)) (s : TermState) (x : List ℕ) (old new : TermReader) (k : ℕ)
     → AreDifferent names → AreDifferent further → Grows vars further → is_too_many most vars (a_variable x) ≡ false → slice_get further k ≡ Some x
     → ((number : List ℕ → ℕ) (leaf : List ℕ → Term) (known : List ℕ → Bool) (s : TermState) (text : List ℕ) → Holds number leaf s old → known text ≡ true → leaf text ≡ variable k
-        → Takes result number leaf (limited known None [] s (a_variable text)) new)
+    → Takes result number leaf (limited known None [] s (a_variable text)) new)
     → HoldsFor names vars s old → TakesFor result names further (limited any_variable most vars s (a_variable x)) new
 taken-variable result most names vars further s x old new k dn dv g m at h holds =
     told-for result names further (limited any_variable most vars s (a_variable x)) new dn dv
-      (λ number numbers an av. subst (λ (o : Result TermState Code). Takes result number (numbered numbers) o new) (few-same most vars s (a_variable x) m)
-        (h number (numbered numbers) any_variable s x (holds number numbers an (λ j text e. av j text (g j text e))) refl (ap variable (av k x at))))
+    (λ number numbers an av. subst (λ (o : Result TermState Code). Takes result number (numbered numbers) o new) (few-same most vars s (a_variable x) m)
+    (h number (numbered numbers) any_variable s x (holds number numbers an (λ j text e. av j text (g j text e))) refl (ap variable (av k x at))))
 
 behind-variable : (u : WrittenTerm) (s : Spot) (x : List ℕ) → behind u s (a_variable x) ≡ stuck
 behind-variable u alone x = refl

@@ -1,5 +1,5 @@
 -- How the fields of a reader stand for a state of the machine of terms.
-use Rattle.std.specs.Prelude.{◌≡◌, ℕ, ◌<◌, Bool, true, false, List, [], ◌∷◌, map, length, Result, Ok, Err, is_some}
+use Rattle.std.specs.Prelude.{◌≡◌, ℕ, ◌<◌, Bool, true, false, List, [], ◌∷◌, map, length, Result, Ok, Err}
 use Rattle.fpc_base.specs.declared.refusal.Code.{Code}
 use Rattle.fpc_base.specs.declared.refusal.TokenRefusal.{TokenRefusal}
 use Rattle.fpc_base.specs.declared.refusal.TokenRefusal.TheVariants.{Refused, OutOfMemory}
@@ -7,7 +7,7 @@ use Rattle.fpc_base.specs.declared.tokens.lexeme.Lexeme as code
 use Rattle.fpc_terms.specs.Name.{IsName}
 use Rattle.fpc_terms.specs.Term.{Term}
 use Rattle.fpc_terms.specs.Partial.{Frame, Partial, nothing, with_term, turned}
-use Rattle.fpc_terms.specs.Written.{WrittenTerm, term_meant, args_meant}
+use Rattle.fpc_terms.specs.Written.{term_meant, args_meant}
 use Rattle.fpc_terms.specs.Spot.{Spot, alone, in_arguments, in_term}
 use Rattle.fpc_terms.specs.Machine.{TermState, wants, named, has, ended, stuck}
 use Rattle.fpc_terms.specs.declared.reader.Mode.{Mode}

@@ -25,7 +25,13 @@ use std::alloc::Global;
 /// Reads one term and leaves the tokens directly behind it. A name without arguments is told by the token behind it;
 /// where that token is refused, so is the term. Names and variables get their numbers in the tables; of variables the table may
 /// hold at most `most`. Time is linear in the term's bytes, but for the look-ups.
-pub fn read_term(alloc: Global, names: &mut Names, tokens: &mut Tokens<'_>, vars: &mut VarTable, most: Option<u64>) -> Result<TermBuf, ParseRefusal>
+pub fn read_term(
+    alloc: Global,
+    names: &mut Names,
+    tokens: &mut Tokens<'_>,
+    vars: &mut VarTable,
+    most: Option<u64>,
+) -> Result<TermBuf, ParseRefusal>
     ensures ok { IfOk result (TermIsRead most (items_left tokens.old) (items_left tokens.new) names.new vars.old vars.new) }
     ensures err { IfErr result (IsTermRefusal most (items_left tokens.old) vars.old (length (source_of tokens.old))) }
     ensures source { source_of tokens.new ≡ source_of tokens.old }
@@ -136,7 +142,11 @@ fn take_token(
 }
 
 /// Takes a token that is no variable.
-fn take_other(reader: &mut TermReader, names: &mut Names, lexeme: Lexeme<'_>) -> Result<(), TokenRefusal>
+fn take_other(
+    reader: &mut TermReader,
+    names: &mut Names,
+    lexeme: Lexeme<'_>,
+) -> Result<(), TokenRefusal>
     requires { IsNamed lexeme }
     ensures taken { (most : Option ℕ) (vars : List (List ℕ)) (s : TermState) → AreDifferent vars → is_variable lexeme.entry ≡ false → HoldsFor names.old vars s reader.old
         → TakesFor result names.new vars (limited any_variable most vars s (lexeme_as lexeme.entry)) reader.new }
@@ -148,7 +158,12 @@ fn take_other(reader: &mut TermReader, names: &mut Names, lexeme: Lexeme<'_>) ->
 }
 
 /// Takes a variable, where it may come and the table may hold it.
-fn take_variable(reader: &mut TermReader, vars: &mut VarTable, most: Option<u64>, name: &[u8]) -> Result<(), TokenRefusal>
+fn take_variable(
+    reader: &mut TermReader,
+    vars: &mut VarTable,
+    most: Option<u64>,
+    name: &[u8],
+) -> Result<(), TokenRefusal>
     ensures taken { (names : List (List ℕ)) (s : TermState) → AreDifferent names → HoldsFor names vars.old s reader.old
         → TakesFor result names vars.new (limited any_variable most vars.old s (a_variable name.now)) reader.new }
     ensures variables { Grows vars.old vars.new }

@@ -5,7 +5,13 @@ use std::process::Abort;
 use std::test::Fail;
 
 /// Reads one term of a text in which at most two variables may stand, and prints it and the rest of the text.
-fn check_read(rt: &impl Abort, alloc: Global, source: &[u8], text: &[u8], left: usize) -> Result<(), Fail> {
+fn check_read(
+    rt: &impl Abort,
+    alloc: Global,
+    source: &[u8],
+    text: &[u8],
+    left: usize,
+) -> Result<(), Fail> {
     let mut names = Names::new(alloc);
     let mut vars = VarTable::new(alloc);
     let mut tokens = Tokens::new(source);
@@ -25,7 +31,13 @@ fn check_read(rt: &impl Abort, alloc: Global, source: &[u8], text: &[u8], left: 
     Ok(())
 }
 
-fn check_refused(rt: &impl Abort, alloc: Global, source: &[u8], code: Code, at: usize) -> Result<(), Fail> {
+fn check_refused(
+    rt: &impl Abort,
+    alloc: Global,
+    source: &[u8],
+    code: Code,
+    at: usize,
+) -> Result<(), Fail> {
     let mut names = Names::new(alloc);
     let mut vars = VarTable::new(alloc);
     let mut tokens = Tokens::new(source);
@@ -76,7 +88,9 @@ fn the_256th_argument_is_refused_at_its_comma(rt: HostRuntime) -> Result<(), Fai
 }
 
 #[test]
-fn a_term_of_a_million_nested_applications_is_read_and_printed(rt: HostRuntime) -> Result<(), Fail> {
+fn a_term_of_a_million_nested_applications_is_read_and_printed(
+    rt: HostRuntime,
+) -> Result<(), Fail> {
     let alloc = rt.alloc();
     let mut source = Vec::new(alloc);
     for _ in 0..1_000_000 {

@@ -10,7 +10,7 @@ invariant-reading l = record {
   on : IsOn l.initial.most (length (source_of l.initial.start)) (items_left l.initial.start) (items_left l.tokens) l.names l.initial.vars l.vars l.reader;
   names : Grows l.initial.names l.names;
   variables : Grows l.initial.vars l.vars;
-  source : source_of l.tokens ≡ source_of l.initial.start
+  source : source_of l.tokens ≡ source_of l.initial.start;
 }
 
 abbrev pub decreases-reading : goal.decreases-reading
