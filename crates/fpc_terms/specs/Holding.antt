@@ -34,6 +34,7 @@ built number leaf (has u s) = with_term (term_meant number leaf u) (base_at numb
 built number leaf (ended args) = record { base = turned (args_meant number leaf args) []; frames = [] }
 built number leaf stuck = nothing
 
+-- what comes next in a state, as the reader keeps it
 abbrev pub mode_of : (List ℕ → ℕ) → TermState → Mode
 mode_of number (wants s) = mode.Wants
 mode_of number (named x s) = mode.Named (number x)
@@ -46,6 +47,7 @@ is_alone_at alone = true
 is_alone_at (in_arguments done) = false
 is_alone_at (in_term x done spot) = is_alone_at spot
 
+-- the state is that of a term by itself
 abbrev pub is_alone_in : TermState → Bool
 is_alone_in (wants s) = is_alone_at s
 is_alone_in (named x s) = is_alone_at s
@@ -58,6 +60,7 @@ HasRoomAt alone = Unit {0}
 HasRoomAt (in_arguments done) = length done < 255
 HasRoomAt (in_term x done spot) = (length done < 255) × HasRoomAt spot
 
+-- one more argument may come in the state
 abbrev pub HasRoomIn : TermState → Type 0
 HasRoomIn (wants s) = HasRoomAt s
 HasRoomIn (named x s) = HasRoomAt s
@@ -83,6 +86,7 @@ abbrev pub IsNamed : code.Lexeme → Type 0
 IsNamed (code.TheVariants.Name x) = IsName x.now
 IsNamed _ = Unit {0}
 
+-- it is a variable
 abbrev pub is_variable : code.Lexeme → Bool
 is_variable (code.TheVariants.Variable x) = true
 is_variable _ = false

@@ -8,7 +8,8 @@ use Rattle.fpc_base.specs.Lexeme.{Lexeme, a_name, a_variable, a_sign}
 use Rattle.fpc_terms.specs.Written.{WrittenTerm, WrittenArgs, variable_word, application, no_words, words}
 use Rattle.fpc_terms.specs.Spot.{Spot, alone, in_arguments, in_term, done_at}
 
--- A term is to come, its name was read, or it was read and what is behind it is to come; or the arguments of the atom are whole.
+-- Where the reading stands: a term is to come (`wants`); its name was read (`named`); it was read, and what stands behind it is to come (`has`);
+-- the arguments of the atom are whole (`ended`); or no term begins with the tokens (`stuck`).
 pub data TermState : Type 0 where
   wants : Spot → TermState
   named : (text : List ℕ) → Spot → TermState
@@ -48,6 +49,7 @@ abbrev pub is_full : TermState → Bool
 is_full (wants s) = nat_eq (length (done_at s)) 255
 is_full _ = false
 
+-- a term begins with the tokens so far
 abbrev pub IsLive : TermState → Type 0
 IsLive stuck = ⊥
 IsLive _ = Unit {0}
@@ -79,6 +81,7 @@ abbrev pub is_final : TermState → Bool
 is_final (has u alone) = true
 is_final _ = false
 
+-- it is an open parenthesis
 abbrev pub is_open : Lexeme → Bool
 is_open (a_sign OpenParenthesis) = true
 is_open _ = false

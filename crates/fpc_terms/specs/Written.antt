@@ -11,6 +11,7 @@ mutual
     variable_word : (text : List ℕ) → WrittenTerm
     application : (text : List ℕ) → (args : WrittenArgs) → WrittenTerm
 
+  -- the arguments of a name, in order
   pub data WrittenArgs : Type 0 where
     no_words : WrittenArgs
     words : (first : WrittenTerm) → (rest : WrittenArgs) → WrittenArgs

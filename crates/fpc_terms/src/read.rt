@@ -23,8 +23,8 @@ use fpc_base::tokens::lexeme::{Lexeme, Sign};
 use std::alloc::Global;
 
 /// Reads one term and leaves the tokens directly behind it. A name without arguments is told by the token behind it;
-/// where that token is refused, so is the term. Names and variables get their numbers in the tables; of variables the table may
-/// hold at most `most`. Time is linear in the term's bytes, but for the look-ups.
+/// where that token is refused, so is the term. Names and variables get their numbers in the tables. Where the table has `most` variables or more, a
+/// variable that it doesn't have is refused as ManyVariables. Time is linear in the term's bytes, but for the look-ups.
 pub fn read_term(
     alloc: Global,
     names: &mut Names,
