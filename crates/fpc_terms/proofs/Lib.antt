@@ -8,3 +8,4 @@ pub mod TermReading
 pub mod BuilderFacts
 pub mod HoldingFacts
 pub mod PrintFacts
+pub mod TokenNames

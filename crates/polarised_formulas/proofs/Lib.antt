@@ -1,4 +1,6 @@
 pub mod Reading
+pub mod BoundFacts
+pub mod ReaderFacts
 pub mod NodeFacts
 pub mod DualFacts
 pub mod PartFacts
@@ -17,3 +19,4 @@ pub mod FormulaReading
 pub mod ProblemLaws
 pub mod ProblemLimits
 pub mod ProblemReading
+pub mod ReadFacts

@@ -9,3 +9,6 @@ pub mod Unfinished
 pub mod Written
 pub mod Place
 pub mod Machine
+pub mod Bound
+pub mod Holding
+pub mod ReadFormula

@@ -1,10 +1,10 @@
 -- Formulas as they are written, their tokens, and the formulas that they stand for.
-use Rattle.std.specs.Prelude.{◌≡◌, ℕ, zero, suc, Bool, true, false, if◌then◌else◌, ◌||◌, List, [], ◌∷◌, codes}
-use Rattle.std.specs.Str.{bytes_eq}
+use Rattle.std.specs.Prelude.{◌≡◌, ℕ, Bool, true, false, if◌then◌else◌, ◌||◌, List, [], ◌∷◌, codes}
 use Rattle.fpc_base.specs.declared.tokens.lexeme.Sign.{Sign}
 use Rattle.fpc_base.specs.declared.tokens.lexeme.Sign.TheVariants as sign
 use Rattle.fpc_base.specs.Lexeme.{Lexeme, a_name, a_variable, a_sign}
 use Rattle.fpc_base.specs.Tokens.{is_one_of}
+use Rattle.fpc_terms.specs.Name.{index_in}
 use Rattle.fpc_terms.specs.Term.{Term, bound, variable}
 use Rattle.fpc_terms.specs.Written.{WrittenArgs, args_tokens, AreKnown, args_meant}
 use Rattle.polarised_formulas.specs.declared.logic.Logic.{Logic}
@@ -95,11 +95,6 @@ IsBound parameters scope (false_unit p) = Unit {0}
 IsBound parameters scope (literal positive x args) = AreKnown (is_known parameters scope) args
 IsBound parameters scope (pair j a b) = IsBound parameters scope a × IsBound parameters scope b
 IsBound parameters scope (bind q x a) = IsBound parameters (x ∷ scope) a
-
--- where a text first stands in a list
-abbrev pub index_in : List (List ℕ) → List ℕ → ℕ
-index_in [] x = zero
-index_in (y ∷ ys) x = if bytes_eq x y then zero else suc (index_in ys x)
 
 -- a variable in a scope, the innermost first: the innermost binding counts, and a parameter is a variable by its number
 abbrev pub variable_meant : List (List ℕ) → List (List ℕ) → List ℕ → Term
