@@ -1,4 +1,6 @@
 pub mod Reading
+pub mod BoundFacts
+pub mod ReaderFacts
 pub mod NodeFacts
 pub mod DualFacts
 pub mod PartFacts
@@ -28,3 +30,4 @@ pub mod Named
 pub mod Closed
 pub mod RoundTrip
 pub mod FormulaNames
+pub mod ReadFacts

@@ -14,3 +14,6 @@ pub mod Size
 pub mod Spoken
 pub mod EachName
 pub mod RoundTrip
+pub mod Bound
+pub mod Holding
+pub mod ReadFormula

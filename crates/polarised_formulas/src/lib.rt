@@ -1,6 +1,7 @@
 //! Formulas with polarity in both logics, the steps of proofs, and problems.
 #![tactic(auto)]
 
+mod bound;
 pub mod builder;
 pub mod connective;
 pub mod dual;
@@ -12,6 +13,8 @@ pub mod opening;
 pub mod parts;
 pub mod print;
 pub mod problem;
+pub mod read;
+pub mod reader;
 pub mod scope;
 pub mod shape;
 pub mod step;
@@ -20,6 +23,7 @@ pub use formula::Formula;
 pub use list::Formulas;
 pub use logic::{Logic, Polarity, Side};
 pub use node::Node;
+pub use read::read_formula;
 pub use print::{print_formula, print_problem};
 pub use problem::{Problem, read_problem};
 pub use step::Step;
