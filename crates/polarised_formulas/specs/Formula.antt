@@ -59,14 +59,16 @@ abbrev pub first_formula : List Formula → Formula
 first_formula [] = falsity Positive
 first_formula (f ∷ fs) = f
 
+-- the formulas behind the first
 abbrev pub later_formulas : List Formula → List Formula
 later_formulas [] = []
 later_formulas (f ∷ fs) = fs
 
--- a node before formulas: it takes as many of them as it has parts
+-- a node before formulas of which it takes one
 abbrev pub on_one : (Formula → Formula) → List Formula → List Formula
 on_one make fs = make (first_formula fs) ∷ later_formulas fs
 
+-- a node before formulas of which it takes two
 abbrev pub on_two : (Formula → Formula → Formula) → List Formula → List Formula
 on_two make fs = make (first_formula fs) (first_formula (later_formulas fs)) ∷ later_formulas (later_formulas fs)
 
@@ -91,14 +93,17 @@ formula_of ns = first_formula (formulas_of ns)
 abbrev pub IsOneFormula : List Node → Type 0
 IsOneFormula ns = nodes_of (formula_of ns) ≡ ns
 
+-- the terms that a literal's cells spell
 pub args_of-inside_before : (cs : List Cell) (ns : List Node) → args_of (inside_before cs ns) ≡ terms_from cs (args_of ns)
 args_of-inside_before [] ns = refl
 args_of-inside_before (c ∷ cs) ns = ap (cell_on c) (args_of-inside_before cs ns)
 
+-- cells of a literal spell no formula
 pub formulas_of-inside_before : (cs : List Cell) (ns : List Node) → formulas_of (inside_before cs ns) ≡ formulas_of ns
 formulas_of-inside_before [] ns = refl
 formulas_of-inside_before (c ∷ cs) ns = formulas_of-inside_before cs ns
 
+-- the nodes of a formula spell it, before those that follow
 pub formulas_of-nodes_before : (f : Formula) (ns : List Node) → formulas_of (nodes_before f ns) ≡ f ∷ formulas_of ns
 formulas_of-nodes_before (truth p) ns = refl
 formulas_of-nodes_before (falsity p) ns = refl
@@ -110,6 +115,7 @@ formulas_of-nodes_before (implies a b) ns = rw (formulas_of-nodes_before a (node
 formulas_of-nodes_before (for_all a) ns = rw (formulas_of-nodes_before a ns)
 formulas_of-nodes_before (exists a) ns = rw (formulas_of-nodes_before a ns)
 
+-- a formula is spelled by its nodes
 pub formula_of-nodes_of : (f : Formula) → formula_of (nodes_of f) ≡ f
 formula_of-nodes_of f = rw (formulas_of-nodes_before f [])
 
@@ -135,6 +141,7 @@ parts_of (disj p a b) = Some (a, b)
 parts_of (implies a b) = Some (a, b)
 parts_of _ = None
 
+-- the polarity of a literal by its sign
 abbrev pub sign_polarity : Bool → Polarity
 sign_polarity true = Positive
 sign_polarity false = Negative
@@ -150,6 +157,7 @@ polarity_of (implies a b) = Negative
 polarity_of (for_all a) = Negative
 polarity_of (exists a) = Positive
 
+-- the other of the two
 abbrev pub other_polarity : Polarity → Polarity
 other_polarity Positive = Negative
 other_polarity Negative = Positive

@@ -19,7 +19,9 @@ use Rattle.polarised_formulas.specs.declared.connective.Binder.TheVariants.{ForA
 use Rattle.polarised_formulas.specs.Written.{WrittenFormula, true_unit, false_unit, literal, pair, bind, WrittenProblem, is_known}
 use Rattle.polarised_formulas.specs.Place.{Place, whole, in_first, in_second, under, scope_at, nesting}
 
--- Where the reading of a formula stands.
+-- Where the reading of a formula stands: a formula is to come (`wants`); an atom's name, behind its mark (`marked`); a quantifier's variable
+-- (`binding`); the colon behind it (`bound_to`); an atom's arguments or what stands behind it (`named`); something in an atom's arguments
+-- (`in_atom`); what stands behind a formula (`has`); or no formula begins with the tokens (`stuck`).
 pub data FormulaState : Type 0 where
   wants : Place → FormulaState
   marked : (positive : Bool) → Place → FormulaState
@@ -55,6 +57,7 @@ joiner_of Ljf sign.Bar = Some (Or Positive)
 joiner_of Ljf sign.Arrow = Some Implies
 joiner_of _ _ = None
 
+-- behind a connective, if it is one
 abbrev pub joined : Option Joiner → WrittenFormula → Place → FormulaState
 joined (Some j) w p = wants (in_second j w p)
 joined None w p = stuck
@@ -128,7 +131,7 @@ within false false s = Ok s
 abbrev pub limited : Logic → List (List ℕ) → FormulaState → Lexeme → Result FormulaState Code
 limited logic parameters s c = within (is_deep s) (is_full (step logic parameters s c)) (step logic parameters s c)
 
--- Where the reading of a problem stands.
+-- Where the reading of a problem stands: at its word (`start`), in its formula (`reading`), behind its dot (`finished`), or no problem begins so (`lost`).
 pub data ProblemState : Type 0 where
   start : ProblemState
   reading : Logic → FormulaState → ProblemState
@@ -139,14 +142,17 @@ pub data ProblemState : Type 0 where
 abbrev pub logic_of : List ℕ → Option Logic
 logic_of x = if bytes_eq x (codes "lkf") then Some Lkf else (if bytes_eq x (codes "ljf") then Some Ljf else None)
 
+-- a problem's formula is to come, behind the word of a logic
 abbrev pub begun_in : Option Logic → ProblemState
 begun_in (Some logic) = reading logic (wants whole)
 begun_in None = lost
 
+-- a formula's state as the problem's
 abbrev pub read_on : Logic → FormulaState → ProblemState
 read_on logic stuck = lost
 read_on logic s = reading logic s
 
+-- behind the dot, where the formula is whole
 abbrev pub dotted : Logic → Option WrittenFormula → ProblemState
 dotted logic (Some w) = finished logic w
 dotted logic None = lost
@@ -158,6 +164,7 @@ problem_step (reading logic s) (a_sign sign.Dot) = dotted logic (whole_of s)
 problem_step (reading logic s) c = read_on logic (step logic [] s c)
 problem_step _ _ = lost
 
+-- tokens of a problem, one after another
 abbrev pub problem_run : ProblemState → List Lexeme → ProblemState
 problem_run s [] = s
 problem_run s (c ∷ cs) = problem_run (problem_step s c) cs
@@ -173,10 +180,12 @@ begun_within (Some Lkf) = Ok (reading Lkf (wants whole))
 begun_within (Some Ljf) = Err NotBuilt
 begun_within None = Err Unexpected
 
+-- behind the dot, or Unexpected where the formula isn't whole
 abbrev pub dotted_within : Logic → Option WrittenFormula → Result ProblemState Code
 dotted_within logic (Some w) = Ok (finished logic w)
 dotted_within logic None = Err Unexpected
 
+-- a formula's answer as the problem's
 abbrev pub read_within : Logic → Result FormulaState Code → Result ProblemState Code
 read_within logic (Ok s) = Ok (reading logic s)
 read_within logic (Err code) = Err code

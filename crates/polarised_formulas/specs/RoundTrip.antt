@@ -40,7 +40,7 @@ abbrev pub TextIsScanned : Type 0
 TextIsScanned = (names : List (List ℕ)) (logic : Logic) (f : Formula) → depth_of f ≤ 2 ^ 64 → IsClosed f → HasNames names f
     → Says (logic_word logic ∷ formula_tokens logic (written_of names 0 f) (a_sign sign.Dot ∷ [])) (items_of (problem_text names logic f))
 
--- the text of a problem within the limits is read as the formula
+-- the text of a problem of LKF within the limits is read as the formula
 abbrev pub TextIsRead : Type 0
 TextIsRead = (names : List (List ℕ)) (number : List ℕ → ℕ) (f : Formula) → Agrees number names → IsPrintable names Lkf f
     → ReadsAs names number (items_of (problem_text names Lkf f)) Lkf f

@@ -20,19 +20,23 @@ mark_text Lkf false = codes "~"
 mark_text Ljf true = codes "+"
 mark_text Ljf false = codes "-"
 
+-- the text of a unit that is true
 abbrev pub truth_text : Polarity → List ℕ
 truth_text Positive = codes "tt+"
 truth_text Negative = codes "tt-"
 
+-- the text of a unit that is false; LJF has one
 abbrev pub falsity_text : Logic → Polarity → List ℕ
 falsity_text Lkf Positive = codes "ff+"
 falsity_text Lkf Negative = codes "ff-"
 falsity_text Ljf p = codes "ff"
 
+-- the operator of a conjunction
 abbrev pub conj_text : Polarity → List ℕ
 conj_text Positive = codes "&+"
 conj_text Negative = codes "&-"
 
+-- the operator of a disjunction; LJF has one
 abbrev pub disj_text : Logic → Polarity → List ℕ
 disj_text Lkf Positive = codes "|+"
 disj_text Lkf Negative = codes "|-"
@@ -69,6 +73,7 @@ named_leaves name d = record { name = name; bound = λ k. 88 ∷ decimal (d - 1 
 abbrev pub named_style : (ℕ → List ℕ) → Style
 named_style name = record { leaves = named_leaves name; binder = λ d. 88 ∷ (decimal d ++ codes " : ") }
 
+-- the word of a logic
 abbrev pub logic_text : Logic → List ℕ
 logic_text Lkf = codes "lkf"
 logic_text Ljf = codes "ljf"

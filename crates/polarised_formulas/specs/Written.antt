@@ -26,15 +26,18 @@ pub data WrittenFormula : Type 0 where
   pair : (joiner : Joiner) → (first second : WrittenFormula) → WrittenFormula
   bind : (binder : Binder) → (text : List ℕ) → (body : WrittenFormula) → WrittenFormula
 
+-- the token of a unit that is true
 abbrev pub true_sign : Polarity → Sign
 true_sign Positive = sign.TruePlus
 true_sign Negative = sign.TrueMinus
 
+-- the token of a unit that is false; LJF has one
 abbrev pub false_sign : Logic → Polarity → Sign
 false_sign Lkf Positive = sign.FalsePlus
 false_sign Lkf Negative = sign.FalseMinus
 false_sign Ljf p = sign.False
 
+-- the token of a connective
 abbrev pub joiner_sign : Logic → Joiner → Sign
 joiner_sign logic (And Positive) = sign.AndPlus
 joiner_sign logic (And Negative) = sign.AndMinus
@@ -43,6 +46,7 @@ joiner_sign Lkf (Or Negative) = sign.BarMinus
 joiner_sign Ljf (Or p) = sign.Bar
 joiner_sign logic Implies = sign.Arrow
 
+-- the token of a quantifier
 abbrev pub binder_sign : Binder → Sign
 binder_sign ForAll = sign.All
 binder_sign Exists = sign.Some
@@ -63,7 +67,7 @@ formula_tokens logic (pair j a b) rest =
     a_sign sign.OpenParenthesis ∷ formula_tokens logic a (a_sign (joiner_sign logic j) ∷ formula_tokens logic b (a_sign sign.CloseParenthesis ∷ rest))
 formula_tokens logic (bind q x a) rest = a_sign (binder_sign q) ∷ a_variable x ∷ a_sign sign.Colon ∷ formula_tokens logic a rest
 
--- the connectives and units are of the logic
+-- the connective is of the logic
 abbrev pub IsJoinerOf : Logic → Joiner → Type 0
 IsJoinerOf logic (And p) = Unit {0}
 IsJoinerOf Lkf (Or p) = Unit {0}
@@ -72,11 +76,13 @@ IsJoinerOf Ljf (Or Positive) = Unit {0}
 IsJoinerOf Ljf (Or Negative) = ⊥
 IsJoinerOf Ljf Implies = Unit {0}
 
+-- the unit that is false is of the logic
 abbrev pub IsFalseOf : Logic → Polarity → Type 0
 IsFalseOf Lkf p = Unit {0}
 IsFalseOf Ljf Positive = Unit {0}
 IsFalseOf Ljf Negative = ⊥
 
+-- the formula's connectives and units are of the logic
 abbrev pub IsWrittenIn : Logic → WrittenFormula → Type 0
 IsWrittenIn logic (true_unit p) = Unit {0}
 IsWrittenIn logic (false_unit p) = IsFalseOf logic p
@@ -100,11 +106,13 @@ IsBound parameters scope (bind q x a) = IsBound parameters (x ∷ scope) a
 abbrev pub variable_meant : List (List ℕ) → List (List ℕ) → List ℕ → Term
 variable_meant parameters scope x = if is_one_of scope x then bound (index_in scope x) else variable (index_in parameters x)
 
+-- two formulas with a connective between them
 abbrev pub joined_by : Joiner → Formula → Formula → Formula
 joined_by (And p) a b = conj p a b
 joined_by (Or p) a b = disj p a b
 joined_by Implies a b = implies a b
 
+-- a formula under a quantifier
 abbrev pub bound_by : Binder → Formula → Formula
 bound_by ForAll a = for_all a
 bound_by Exists a = exists a
@@ -128,6 +136,7 @@ pub record WrittenProblem : Type 0 where
   pub logic : Logic
   pub formula : WrittenFormula
 
+-- the token that a problem begins with
 abbrev pub logic_word : Logic → Lexeme
 logic_word Lkf = a_name (codes "lkf")
 logic_word Ljf = a_name (codes "ljf")
