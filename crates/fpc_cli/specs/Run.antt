@@ -1,9 +1,12 @@
 -- Why the program answers as it does, and what it writes.
-use Rattle.std.specs.Prelude.{◌≡◌, ◌≢◌, ◌⊎◌, ℕ, List, Option, Result, Ok, Err}
-use Rattle.fpc_base.specs.Outside.{Content, missing, Rose, Adds, AddsPrefix}
+use Rattle.std.specs.Prelude.{◌≡◌, ◌≢◌, ◌⊎◌, ℕ, ◌<◌, List, length, Option, Result, Ok, Err}
+use Rattle.fpc_base.specs.Outside.{Content, untold, missing, holds, Rose, Adds, AddsPrefix}
 use Rattle.fpc_base.specs.declared.refusal.Refusal.{Refusal}
-use Rattle.fpc_base.specs.declared.refusal.Code.TheVariants.{NotBuilt, TooLarge}
+use Rattle.fpc_base.specs.declared.refusal.Code.TheVariants.{TooLarge}
+use Rattle.fpc_terms.specs.Name.{AreDifferent}
+use Rattle.polarised_formulas.specs.declared.logic.Logic.TheVariants.{Lkf}
 use Rattle.polarised_formulas.specs.Formula.{Formula, IsClosed, IsLkf}
+use Rattle.polarised_formulas.specs.ReadProblem.{ProblemIsRead, IsRefusedAsProblem}
 use Rattle.lkf_rules.specs.Derivation.{IsDerivable}
 use Rattle.explicit_kernel.specs.Progress.{HasSpelling, ComesTo}
 use Rattle.explicit_kernel.specs.Check.{IsPlainRefusal}
@@ -29,20 +32,50 @@ abbrev pub MissesOne : Asked → (List ℕ → Content) → Type 0
 MissesOne (verify problem explicit) content = (content problem ≡ missing) ⊎ ((content problem ≢ missing) × (content explicit ≡ missing))
 MissesOne usage content = ⊥
 
--- a refusal that the files of this stage can get: of a problem at its beginning, or for its size; of a certificate as the kernel tells it
-abbrev pub IsRefusalOf : Role → Refusal → Type 0
-IsRefusalOf Problem refusal = (refusal ≡ record { code = NotBuilt; at = 0 }) ⊎ (refusal ≡ record { code = TooLarge; at = 16777216 })
-IsRefusalOf Explicit refusal = IsPlainRefusal refusal
-IsRefusalOf _ refusal = ⊥
+-- what is told of a file doesn't speak against these bytes
+abbrev pub MayHold : Content → List ℕ → Type 0
+MayHold untold bytes = Unit {0}
+MayHold missing bytes = ⊥
+MayHold (holds b) bytes = b ≡ bytes
 
--- An answer's cause, in what was asked, which files are there, and the counts of their faults before and now. The goal is some closed formula of LKF: that it is
--- the one that the problem's file spells is not said.
+-- what is told of a file doesn't speak against more bytes than a source file may have
+abbrev pub MayBeTooLarge : Content → Type 0
+MayBeTooLarge untold = Unit {0}
+MayBeTooLarge missing = ⊥
+MayBeTooLarge (holds b) = 16777216 < length b
+
+-- the file's bytes are a problem of LKF with this goal, whose names have numbers in some table of different names
+pub record SpellsGoal (content : Content) (goal : Formula) : Type 0 where
+  pub bytes : List ℕ
+  pub names : List (List ℕ)
+  pub held : MayHold content bytes
+  pub different : AreDifferent names
+  pub read : ProblemIsRead bytes names Lkf goal
+
+-- why a problem's file is refused: for its size, or by the grammar at the first place where it is no problem's
+abbrev pub IsProblemRefused : Content → Refusal → Type 0
+IsProblemRefused content refusal =
+    ((refusal ≡ record { code = TooLarge; at = 16777216 }) × MayBeTooLarge content)
+    ⊎ ((bytes : List ℕ) × (MayHold content bytes × IsRefusedAsProblem bytes refusal))
+
+-- a refusal of a file: of a problem as its grammar tells it, of a certificate as the kernel tells it
+abbrev pub IsRefusalOf : Role → Asked → (List ℕ → Content) → Refusal → Type 0
+IsRefusalOf Problem (verify problem explicit) content refusal = IsProblemRefused (content problem) refusal
+IsRefusalOf Explicit (verify problem explicit) content refusal = IsPlainRefusal refusal
+IsRefusalOf _ _ content refusal = ⊥
+
+-- the file of the problem spells the goal
+abbrev pub HasGoal : Asked → (List ℕ → Content) → Formula → Type 0
+HasGoal (verify problem explicit) content goal = SpellsGoal (content problem) goal
+HasGoal usage content goal = ⊥
+
+-- an answer's cause, in what was asked, what is told of the files, and the counts of their faults before and now
 abbrev pub IsCaused : Asked → (List ℕ → Content) → ℕ → ℕ → Answer → Type 0
 IsCaused asked content before now (Accepted n) =
-    HasFilesTo Explicit asked content × (now ≡ before) × ((goal : Formula) × IsClosed goal × IsLkf goal × HasSpelling goal n × IsDerivable goal)
+    HasFilesTo Explicit asked content × (now ≡ before) × ((goal : Formula) × HasGoal asked content goal × IsClosed goal × IsLkf goal × HasSpelling goal n × IsDerivable goal)
 IsCaused asked content before now (Rejected k) =
-    HasFilesTo Explicit asked content × (now ≡ before) × ((goal : Formula) × IsClosed goal × IsLkf goal × ComesTo goal k)
-IsCaused asked content before now (Refused role refusal) = HasFilesTo role asked content × (now ≡ before) × IsRefusalOf role refusal
+    HasFilesTo Explicit asked content × (now ≡ before) × ((goal : Formula) × HasGoal asked content goal × IsClosed goal × IsLkf goal × ComesTo goal k)
+IsCaused asked content before now (Refused role refusal) = HasFilesTo role asked content × (now ≡ before) × IsRefusalOf role asked content refusal
 IsCaused asked content before now Usage = (asked ≡ usage) × (now ≡ before)
 IsCaused asked content before now ReadFault = (asked ≢ usage) × (Rose before now ⊎ MissesOne asked content)
 IsCaused asked content before now OutOfMemory = Unit {0}
