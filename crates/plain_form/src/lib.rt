@@ -1,0 +1,2 @@
+//! The plain form of terms and formulas as bytes.
+#![tactic(auto)]
