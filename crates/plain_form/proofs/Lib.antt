@@ -3,3 +3,5 @@ pub mod Lookups
 pub mod Kept
 pub mod Live
 pub mod Completion
+pub mod Forward
+pub mod FormulaForward
