@@ -44,7 +44,7 @@ module _ (text : ℕ → List ℕ) where
   Spells-if logic true x y f h k = h refl
   Spells-if logic false x y f h k = k refl
 
-  Spells-same : (logic : Logic) (n : Next) (f g : List ℕ → List ℕ) → ((rest : List ℕ) → f rest ≡ g rest) → Spells text logic n f → Spells text logic n g
+  pub Spells-same : (logic : Logic) (n : Next) (f g : List ℕ → List ℕ) → ((rest : List ℕ) → f rest ≡ g rest) → Spells text logic n f → Spells text logic n g
   Spells-same logic (on q) f g e h = λ rest. h rest ∙ e rest
   Spells-same logic (whole_term t) f g e h = λ rest. h rest ∙ e rest
   Spells-same logic (whole_formula a) f g e h = λ rest. h rest ∙ e rest

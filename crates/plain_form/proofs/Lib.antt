@@ -5,3 +5,5 @@ pub mod Live
 pub mod Completion
 pub mod Forward
 pub mod FormulaForward
+pub mod Begins
+pub mod Joins

@@ -94,3 +94,12 @@ TermIsWhole = (text : ℕ → List ℕ) (number : List ℕ → ℕ) → GivesBac
 abbrev pub FormulaIsWhole : Type 0
 FormulaIsWhole = (text : ℕ → List ℕ) (number : List ℕ → ℕ) → GivesBack text number → (logic : Logic) (bytes : List ℕ) (f : Formula)
     → (run number logic (start of_formula) bytes ≡ whole_formula f) ↔ (IsPlainFormula text number logic 0 f × (plain_formula text logic 0 f (10 ∷ []) ≡ bytes))
+
+-- different plain terms have different texts
+abbrev pub TermIsOne : Type 0
+TermIsOne = (text : ℕ → List ℕ) (number : List ℕ → ℕ) (t u : Term) → IsPlainTerm text number 0 t → IsPlainTerm text number 0 u → plain_term text t (10 ∷ []) ≡ plain_term text u (10 ∷ []) → t ≡ u
+
+-- different plain formulas of a logic have different texts
+abbrev pub FormulaIsOne : Type 0
+FormulaIsOne = (text : ℕ → List ℕ) (number : List ℕ → ℕ) (logic : Logic) (f g : Formula) → IsPlainFormula text number logic 0 f → IsPlainFormula text number logic 0 g
+    → plain_formula text logic 0 f (10 ∷ []) ≡ plain_formula text logic 0 g (10 ∷ []) → f ≡ g
