@@ -7,3 +7,4 @@ pub mod Forward
 pub mod FormulaForward
 pub mod Begins
 pub mod Joins
+pub mod Numberings

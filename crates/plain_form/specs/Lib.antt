@@ -1,2 +1,3 @@
 pub mod PlainReading
 pub mod PlainForm
+pub mod Numbering
