@@ -8,3 +8,4 @@ pub mod FormulaForward
 pub mod Begins
 pub mod Joins
 pub mod Numberings
+pub mod Renaming
