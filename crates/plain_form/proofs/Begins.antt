@@ -32,7 +32,7 @@ term_is_one text number t u p q e = same_whole_term t u (sym (term_read text num
 pub formula_is_one : FormulaIsOne
 formula_is_one text number logic f g p q e = same_whole_formula f g (sym (formula_read text number logic f p) ∙ ap (run number logic (start of_formula)) e ∙ formula_read text number logic g q)
 
-stays_wrong : (number : List ℕ → ℕ) (logic : Logic) (bs : List ℕ) → run number logic wrong bs ≡ wrong
+pub stays_wrong : (number : List ℕ → ℕ) (logic : Logic) (bs : List ℕ) → run number logic wrong bs ≡ wrong
 stays_wrong number logic [] = refl
 stays_wrong number logic (b ∷ bs) = stays_wrong number logic bs
 
@@ -74,7 +74,7 @@ Holds-start text number back logic of_formula = record { live = refl; spells = �
 holds : (text : ℕ → List ℕ) (number : List ℕ → ℕ) (back : GivesBack text number) (logic : Logic) (wanted : Use) (bytes : List ℕ) → Holds text number back logic wanted (run number logic (start wanted) bytes) (λ rest. bytes ++ rest)
 holds text number back logic wanted bytes = Holds-run text number back logic wanted bytes (start wanted) (λ rest. rest) (Holds-start text number back logic wanted)
 
-line_goes : (text : ℕ → List ℕ) (number : List ℕ → ℕ) (logic : Logic) (wanted : Use) (bytes : List ℕ) → IsLine text number logic wanted bytes → IsGoing (run number logic (start wanted) bytes)
+pub line_goes : (text : ℕ → List ℕ) (number : List ℕ → ℕ) (logic : Logic) (wanted : Use) (bytes : List ℕ) → IsLine text number logic wanted bytes → IsGoing (run number logic (start wanted) bytes)
 line_goes text number logic of_term bytes h = subst IsGoing (sym (ap (run number logic (start of_term)) (sym h.2) ∙ term_read text number logic h.0 h.1)) tt
 line_goes text number logic of_formula bytes h = subst IsGoing (sym (ap (run number logic (start of_formula)) (sym h.2) ∙ formula_read text number logic h.0 h.1)) tt
 

@@ -9,3 +9,4 @@ pub mod Begins
 pub mod Joins
 pub mod Numberings
 pub mod Renaming
+pub mod Texts

@@ -1,3 +1,4 @@
 pub mod PlainReading
 pub mod PlainForm
 pub mod Numbering
+pub mod PlainTexts
