@@ -36,7 +36,7 @@ decimal-one b rest h =
     let same : 48 + (b - 48) ≡ b = grind (arith, nat_tests) in
     ap (λ ds. ds ++ rest) (decimal_digit (b - 48) low) ∙ ap (λ c. c ∷ rest) same
 
-same_number : (a b : ℕ) → nat_eq b a ≡ true → a ≡ b
+pub same_number : (a b : ℕ) → nat_eq b a ≡ true → a ≡ b
 same_number a b h = grind (arith, nat_tests)
 
 module _ (text : ℕ → List ℕ) where

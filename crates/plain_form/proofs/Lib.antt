@@ -10,3 +10,5 @@ pub mod Joins
 pub mod Numberings
 pub mod Renaming
 pub mod Texts
+pub mod LineEnds
+pub mod Proper

@@ -2,13 +2,13 @@
 use Rattle.std.specs.Prelude.{◌≡◌, ℕ, suc, ◌<◌, Bool, true, false, ◌&&◌, ◌↔◌, List, [], ◌∷◌, ◌++◌}
 use Rattle.std.specs.List.{list_all}
 use Rattle.fpc_terms.specs.Name.{is_small_letter, is_name_byte}
-use Rattle.fpc_terms.specs.Term.{Term, Args, eigen, bound, variable, app, no_args, arg}
+use Rattle.fpc_terms.specs.Term.{Term, Args, eigen, bound, variable, app, no_args, arg, IsProperTerm}
 use Rattle.fpc_terms.specs.Text.{term_before, plain_leaves}
 use Rattle.polarised_formulas.specs.declared.logic.Logic.{Logic}
 use Rattle.polarised_formulas.specs.declared.logic.Logic.TheVariants.{Lkf, Ljf}
 use Rattle.polarised_formulas.specs.declared.logic.Polarity.{Polarity}
 use Rattle.polarised_formulas.specs.declared.logic.Polarity.TheVariants.{Positive, Negative}
-use Rattle.polarised_formulas.specs.Formula.{Formula, truth, falsity, atom, conj, disj, implies, for_all, exists}
+use Rattle.polarised_formulas.specs.Formula.{Formula, truth, falsity, atom, conj, disj, implies, for_all, exists, IsProper, IsOfLogic}
 use Rattle.polarised_formulas.specs.Text.{formula_before, plain_style}
 use Rattle.plain_form.specs.PlainReading.{Operator, conjunction, disjunction, implication, is_keyword, Next, whole_term, whole_formula, run, Use, of_term, of_formula, start, IsGoing}
 
@@ -103,3 +103,15 @@ TermIsOne = (text : ℕ → List ℕ) (number : List ℕ → ℕ) (t u : Term) �
 abbrev pub FormulaIsOne : Type 0
 FormulaIsOne = (text : ℕ → List ℕ) (number : List ℕ → ℕ) (logic : Logic) (f g : Formula) → IsPlainFormula text number logic 0 f → IsPlainFormula text number logic 0 g
     → plain_formula text logic 0 f (10 ∷ []) ≡ plain_formula text logic 0 g (10 ∷ []) → f ≡ g
+
+-- a number of at most nine digits
+abbrev pub HasNineDigits : ℕ → Type 0
+HasNineDigits k = k < 1000000000
+
+-- a plain term has no variable and no bound index, and small eigenvariables
+abbrev pub PlainTermIsProper : Type 0
+PlainTermIsProper = (text : ℕ → List ℕ) (number : List ℕ → ℕ) (t : Term) → IsPlainTerm text number 0 t → IsProperTerm HasNineDigits t
+
+-- a plain formula has no variable and no free bound index, and is of its logic
+abbrev pub PlainFormulaIsProper : Type 0
+PlainFormulaIsProper = (text : ℕ → List ℕ) (number : List ℕ → ℕ) (logic : Logic) (f : Formula) → IsPlainFormula text number logic 0 f → IsProper HasNineDigits f × IsOfLogic logic f
