@@ -1,12 +1,12 @@
 -- The reading goes on exactly where the bytes begin a line, and a line is read as what it holds.
-use Rattle.std.proofs.Common.{◌≡◌, ℕ, Bool, true, false, ◌↔◌, List, [], ◌∷◌, ◌++◌, refl, sym, ap, ◌∙◌, subst, append-nil}
+use Rattle.std.proofs.Common.{◌≡◌, ℕ, List, [], ◌∷◌, ◌++◌, refl, sym, ap, ◌∙◌, subst, append-nil}
 use Rattle.fpc_terms.specs.Term.{Term}
 use Rattle.polarised_formulas.specs.declared.logic.Logic.{Logic}
 use Rattle.polarised_formulas.specs.declared.logic.Logic.TheVariants.{Lkf}
 use Rattle.polarised_formulas.specs.Formula.{Formula}
-use Rattle.plain_form.specs.PlainReading.{Reading, Next, on, whole_term, whole_formula, wrong, alone, next, go, run, Use, of_term, of_formula, start, IsGoing}
+use Rattle.plain_form.specs.PlainReading.{Next, on, whole_term, whole_formula, wrong, alone, next, go, run, Use, of_term, of_formula, start, IsGoing}
 use Rattle.plain_form.specs.PlainForm.{GivesBack, IsPlainTerm, IsPlainFormula, IsLine, BeginsLine, plain_term, plain_formula, GoingBegins, TermIsWhole, FormulaIsWhole, TermIsOne, FormulaIsOne}
-use Rattle.plain_form.proofs.Begun.{begun_before, Spells, IsLive, IsLiveNext}
+use Rattle.plain_form.proofs.Begun.{Spells, IsLiveNext}
 use Rattle.plain_form.proofs.Kept.{Spells-same, Spells-next}
 use Rattle.plain_form.proofs.Live.{IsLiveNext-next}
 use Rattle.plain_form.proofs.Completion.{complete-begun}

@@ -1,13 +1,13 @@
 -- The bytes of what has been read, and when a reading can still become whole.
-use Rattle.std.proofs.Common.{◌≡◌, ℕ, zero, suc, ◌<◌, Bool, true, false, if◌then◌else◌, List, [], ◌∷◌, ◌++◌, codes, decimal, refl}
-use Rattle.fpc_terms.specs.Term.{Term, Args, no_args, arg}
+use Rattle.std.proofs.Common.{◌≡◌, ℕ, ◌<◌, true, List, [], ◌∷◌, ◌++◌, decimal, refl}
+use Rattle.fpc_terms.specs.Term.{Term, Args, arg}
 use Rattle.fpc_terms.specs.Text.{args_before, more_before, plain_leaves}
 use Rattle.polarised_formulas.specs.declared.logic.Logic.{Logic}
 use Rattle.polarised_formulas.specs.declared.logic.Logic.TheVariants.{Lkf, Ljf}
 use Rattle.polarised_formulas.specs.Formula.{Formula}
 use Rattle.polarised_formulas.specs.Text.{mark_text, operator_before}
-use Rattle.plain_form.specs.PlainReading.{Operator, conjunction, disjunction, implication, Quantifier, every, some, binary, operator_text, quantifier_text, operators, link_text, words, word_text, begins_some, Hole, first_of, second_of, under, depth_of, Around, alone, in_term, in_atom, depth_around, Reading, at_formula, in_word, at_name, in_name, behind_formula, in_operator, at_term, in_function, at_eigen, in_eigen, at_index, in_index, behind_term, Next, on, whole_term, whole_formula, wrong, args_onto, Use, of_term, of_formula}
-use Rattle.plain_form.specs.PlainForm.{begins_name, IsPlainName, IsPlainTerm, ArePlainTerms, HasOperator, IsPlainFormula, plain_term, plain_formula}
+use Rattle.plain_form.specs.PlainReading.{Operator, conjunction, disjunction, implication, binary, operator_text, quantifier_text, operators, link_text, words, word_text, begins_some, Hole, first_of, second_of, under, depth_of, Around, alone, in_term, in_atom, depth_around, Reading, at_formula, in_word, at_name, in_name, behind_formula, in_operator, at_term, in_function, at_eigen, in_eigen, at_index, in_index, behind_term, Next, on, whole_term, whole_formula, wrong, args_onto, Use, of_term, of_formula}
+use Rattle.plain_form.specs.PlainForm.{begins_name, IsPlainName, IsPlainTerm, HasOperator, IsPlainFormula, plain_term, plain_formula}
 
 -- the terms so far, the last one first, before other bytes
 abbrev pub done_before : (ℕ → List ℕ) → List Term → List ℕ → List ℕ

@@ -1,15 +1,15 @@
 -- A reading that may become whole does so with some bytes.
-use Rattle.std.proofs.Common.{◌≡◌, ℕ, zero, suc, ◌<◌, Bool, true, false, List, [], ◌∷◌, ◌++◌, codes, decimal, refl, sym, ap, ◌∙◌, subst, arith, append_assoc}
-use Rattle.fpc_terms.specs.Term.{Term, Args, eigen, bound, app, no_args, arg}
+use Rattle.std.proofs.Common.{◌≡◌, ℕ, Bool, true, List, [], ◌∷◌, ◌++◌, codes, decimal, refl, sym, ap, ◌∙◌, subst, arith, append_assoc}
+use Rattle.fpc_terms.specs.Term.{Term, eigen, bound, app, no_args, arg}
 use Rattle.polarised_formulas.specs.declared.logic.Logic.{Logic}
 use Rattle.polarised_formulas.specs.declared.logic.Logic.TheVariants.{Lkf, Ljf}
-use Rattle.polarised_formulas.specs.declared.logic.Polarity.TheVariants.{Positive, Negative}
-use Rattle.polarised_formulas.specs.Formula.{Formula, truth, falsity, atom, conj, disj, implies, for_all, exists}
+use Rattle.polarised_formulas.specs.declared.logic.Polarity.TheVariants.{Positive}
+use Rattle.polarised_formulas.specs.Formula.{Formula, truth, falsity, atom, conj, for_all, exists}
 use Rattle.polarised_formulas.specs.Text.{mark_text}
-use Rattle.plain_form.specs.PlainReading.{Operator, conjunction, Quantifier, every, some, binary, operator_text, operators, link_text, Word, true_unit, false_unit, binder, words, word_text, Hole, first_of, second_of, under, depth_of, Around, alone, in_term, in_atom, depth_around, Reading, at_formula, in_word, at_name, in_name, behind_formula, in_operator, at_term, in_function, at_eigen, in_eigen, at_index, in_index, behind_term, is_keyword, args_onto, Use, of_term, of_formula}
-use Rattle.plain_form.specs.PlainForm.{begins_name, HasOperator, GivesBack, IsPlainTerm, ArePlainTerms, IsPlainFormula, IsLine, plain_term, plain_formula}
+use Rattle.plain_form.specs.PlainReading.{conjunction, every, some, binary, operator_text, operators, link_text, Word, true_unit, false_unit, binder, words, word_text, Hole, first_of, second_of, under, depth_of, Around, alone, in_term, in_atom, depth_around, Reading, at_formula, in_word, at_name, in_name, behind_formula, in_operator, at_term, in_function, at_eigen, in_eigen, at_index, in_index, behind_term, args_onto, Use}
+use Rattle.plain_form.specs.PlainForm.{begins_name, HasOperator, GivesBack, IsPlainTerm, IsPlainFormula, IsLine, plain_term, plain_formula}
 use Rattle.plain_form.proofs.Lookups.{Continues, begins_some-continues, begins_name-snoc, not_keyword-underscore}
-use Rattle.plain_form.proofs.Begun.{holes_before, around_before, begun_before, done_before, args_before-args_onto, plain_formula-binary, IsLive, IsLiveWord, AreLiveHoles, IsLiveAround}
+use Rattle.plain_form.proofs.Begun.{holes_before, around_before, begun_before, args_before-args_onto, plain_formula-binary, IsLive, IsLiveWord, AreLiveHoles, IsLiveAround}
 use Rattle.plain_form.proofs.Live.{HasWord, all_words, all_operators, plain_name, ArePlainTerms-args_onto, IsPlainFormula-binary}
 
 -- with some bytes a line of what is wanted comes out

@@ -1,8 +1,8 @@
 -- The line of a formula is read as that formula.
-use Rattle.std.proofs.Common.{◌≡◌, ℕ, suc, Bool, true, false, if◌then◌else◌, List, [], ◌∷◌, ◌++◌, codes, refl, sym, ap, ◌∙◌, arith, nat_eq}
+use Rattle.std.proofs.Common.{◌≡◌, ℕ, suc, Bool, true, false, List, [], ◌∷◌, ◌++◌, codes, refl, ap, ◌∙◌, arith, nat_eq}
 use Rattle.std.proofs.lemmas.Bool.{cond-true, cond-false}
 use Rattle.fpc_terms.specs.Name.{is_small_letter, is_name_byte}
-use Rattle.fpc_terms.specs.Term.{Term, Args, no_args, arg}
+use Rattle.fpc_terms.specs.Term.{Args, no_args, arg}
 use Rattle.fpc_terms.specs.Text.{args_before, more_before, plain_leaves}
 use Rattle.polarised_formulas.specs.declared.logic.Logic.{Logic}
 use Rattle.polarised_formulas.specs.declared.logic.Logic.TheVariants.{Lkf, Ljf}
@@ -10,8 +10,8 @@ use Rattle.polarised_formulas.specs.declared.logic.Polarity.{Polarity}
 use Rattle.polarised_formulas.specs.declared.logic.Polarity.TheVariants.{Positive, Negative}
 use Rattle.polarised_formulas.specs.Formula.{Formula, truth, falsity, atom, conj, disj, implies, for_all, exists}
 use Rattle.polarised_formulas.specs.Text.{mark_text, operator_before, truth_text, falsity_text}
-use Rattle.plain_form.specs.PlainReading.{Operator, conjunction, disjunction, implication, every, some, binary, operator_text, words, word_text, first_with, Hole, first_of, second_of, under, depth_of, Around, in_atom, Reading, at_formula, in_word, at_name, in_name, behind_formula, in_operator, at_term, Next, on, end_formula, end_name, is_keyword, end_word, next, run}
-use Rattle.plain_form.specs.PlainForm.{begins_name, HasOperator, HasFalsity, IsPlainName, IsPlainFormula, ArePlainTerms, plain_term, plain_formula}
+use Rattle.plain_form.specs.PlainReading.{Operator, conjunction, disjunction, implication, every, some, binary, operator_text, Hole, first_of, second_of, under, depth_of, in_atom, Reading, at_formula, in_word, at_name, in_name, behind_formula, in_operator, at_term, on, end_formula, end_name, is_keyword, end_word, next, run}
+use Rattle.plain_form.specs.PlainForm.{begins_name, HasOperator, HasFalsity, IsPlainName, IsPlainFormula, plain_term, plain_formula}
 use Rattle.plain_form.proofs.Lookups.{no_word}
 use Rattle.plain_form.proofs.Forward.{Closer, close, blank, byte_of, ends_names, not_open, small_above, small_below, Names, run-name, RunsArgs, run-args}
 

@@ -1,5 +1,5 @@
 -- The line of a term or a formula is read as that term or formula.
-use Rattle.std.proofs.Common.{◌≡◌, ℕ, zero, suc, ◌+◌, ◌-◌, ◌*◌, ◌/◌, ◌%◌, ◌^◌, ◌<◌, ◌≤◌, Bool, true, false, if◌then◌else◌, ◌&&◌, List, [], ◌∷◌, ◌++◌, Option, Some, None, codes, decimal, refl, sym, ap, ap₂, ◌∙◌, subst, arith, nat_eq, nat_lt, nat_le, append_assoc, append-nil}
+use Rattle.std.proofs.Common.{◌≡◌, ℕ, ◌+◌, ◌-◌, ◌*◌, ◌/◌, ◌%◌, ◌^◌, ◌<◌, ◌≤◌, true, false, ◌&&◌, List, [], ◌∷◌, ◌++◌, decimal, refl, sym, ap, ◌∙◌, subst, arith, nat_eq, nat_lt, nat_le, append_assoc, append-nil}
 use Rattle.std.specs.List.{list_all}
 use Rattle.std.proofs.lemmas.Bool.{and_parts, and_from, and_left, cond-true, cond-false}
 use Rattle.std.proofs.lemmas.Bool.Decides.{nat_tests}
@@ -9,14 +9,8 @@ use Rattle.fpc_terms.specs.Name.{is_small_letter, is_name_byte}
 use Rattle.fpc_terms.specs.Term.{Term, Args, eigen, bound, variable, app, no_args, arg}
 use Rattle.fpc_terms.specs.Text.{args_before, more_before, plain_leaves}
 use Rattle.polarised_formulas.specs.declared.logic.Logic.{Logic}
-use Rattle.polarised_formulas.specs.declared.logic.Logic.TheVariants.{Lkf, Ljf}
-use Rattle.polarised_formulas.specs.declared.logic.Polarity.{Polarity}
-use Rattle.polarised_formulas.specs.declared.logic.Polarity.TheVariants.{Positive, Negative}
-use Rattle.polarised_formulas.specs.Formula.{Formula, truth, falsity, atom, conj, disj, implies, for_all, exists}
-use Rattle.polarised_formulas.specs.Text.{mark_text, operator_before}
-use Rattle.plain_form.specs.PlainReading.{Operator, conjunction, disjunction, implication, Quantifier, every, some, binary, quantified, operator_text, quantifier_text, operators, link_text, Word, words, word_text, first_with, Hole, first_of, second_of, under, depth_of, Around, alone, in_term, in_atom, depth_around, Reading, at_formula, in_word, at_name, in_name, behind_formula, in_operator, at_term, in_function, at_eigen, in_eigen, at_index, in_index, behind_term, Next, on, whole_term, whole_formula, wrong, args_onto, end_formula, end_term, end_name, end_function, is_keyword, end_word, next_in_word, can_grow, grown, next, go, run, Use, of_term, of_formula, start}
-use Rattle.plain_form.specs.PlainForm.{begins_name, HasOperator, HasFalsity, IsPlainName, IsPlainTerm, ArePlainTerms, IsPlainFormula, plain_term, plain_formula}
-use Rattle.plain_form.proofs.Lookups.{no_word}
+use Rattle.plain_form.specs.PlainReading.{Around, in_term, depth_around, Reading, at_term, in_function, at_eigen, in_eigen, at_index, in_index, behind_term, Next, on, args_onto, end_term, is_keyword, can_grow, grown, next, go, run, start}
+use Rattle.plain_form.specs.PlainForm.{begins_name, IsPlainName, IsPlainTerm, ArePlainTerms, plain_term}
 
 -- what may stand behind a term or a formula
 pub data Closer : Type 0 where

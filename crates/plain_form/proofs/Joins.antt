@@ -1,5 +1,5 @@
 -- Bytes behind a text stay behind it.
-use Rattle.std.proofs.Common.{◌≡◌, ℕ, suc, Bool, true, false, List, [], ◌∷◌, ◌++◌, codes, decimal, refl, sym, ap, ◌∙◌, append_assoc}
+use Rattle.std.proofs.Common.{◌≡◌, ℕ, suc, List, ◌∷◌, ◌++◌, codes, decimal, refl, sym, ap, ◌∙◌, append_assoc}
 use Rattle.fpc_terms.specs.Term.{Term, Args, eigen, bound, variable, app, no_args, arg}
 use Rattle.fpc_terms.specs.Text.{args_before, more_before, plain_leaves}
 use Rattle.polarised_formulas.specs.declared.logic.Logic.{Logic}

@@ -1,18 +1,17 @@
 -- A byte that may come is kept: what the reading holds has the bytes read.
-use Rattle.std.proofs.Common.{◌≡◌, ℕ, zero, suc, ◌+◌, ◌-◌, ◌*◌, ◌/◌, ◌%◌, ◌<◌, ◌≤◌, Bool, true, false, if◌then◌else◌, ◌&&◌, List, [], ◌∷◌, ◌++◌, Option, Some, None, codes, decimal, refl, sym, ap, ap₂, ◌∙◌, subst, arith, nat_eq, nat_lt, nat_le, append_assoc}
+use Rattle.std.proofs.Common.{◌≡◌, ℕ, ◌+◌, ◌-◌, ◌/◌, ◌%◌, ◌<◌, ◌≤◌, Bool, true, false, if◌then◌else◌, ◌&&◌, List, [], ◌∷◌, ◌++◌, Option, Some, None, decimal, refl, sym, ap, ap₂, ◌∙◌, arith, nat_eq, nat_lt, nat_le, append_assoc}
 use Rattle.std.proofs.lemmas.Bool.{and_parts}
 use Rattle.std.proofs.lemmas.Bool.Decides.{nat_tests}
 use Rattle.std.proofs.lemmas.Fmt.{decimal_digit, decimal_step}
 use Rattle.fpc_base.specs.Tokens.{is_digit}
 use Rattle.fpc_terms.specs.Name.{is_small_letter, is_name_byte}
-use Rattle.fpc_terms.specs.Term.{Term, Args, eigen, bound, app, no_args, arg}
-use Rattle.fpc_terms.specs.Text.{args_before, more_before, plain_leaves}
+use Rattle.fpc_terms.specs.Term.{Term, eigen, bound, app, no_args, arg}
+use Rattle.fpc_terms.specs.Text.{args_before, plain_leaves}
 use Rattle.polarised_formulas.specs.declared.logic.Logic.{Logic}
 use Rattle.polarised_formulas.specs.declared.logic.Logic.TheVariants.{Lkf, Ljf}
-use Rattle.polarised_formulas.specs.declared.logic.Polarity.TheVariants.{Positive, Negative}
-use Rattle.polarised_formulas.specs.Formula.{Formula, truth, falsity, atom, conj, disj, implies, for_all, exists}
+use Rattle.polarised_formulas.specs.Formula.{Formula, atom, for_all, exists}
 use Rattle.polarised_formulas.specs.Text.{mark_text, operator_before}
-use Rattle.plain_form.specs.PlainReading.{Operator, conjunction, disjunction, implication, Quantifier, every, some, binary, quantified, operator_text, quantifier_text, operators, link_text, Word, true_unit, false_unit, binder, words, word_text, first_with, begins_some, Hole, first_of, second_of, under, depth_of, Around, alone, in_term, in_atom, depth_around, Reading, at_formula, in_word, at_name, in_name, behind_formula, in_operator, at_term, in_function, at_eigen, in_eigen, at_index, in_index, behind_term, Next, on, whole_term, whole_formula, wrong, args_onto, end_formula, end_term, end_name, end_function, is_keyword, after_word, end_word, ljf_word, next_in_word, first_byte, next_operator, can_grow, grown, next, Use}
+use Rattle.plain_form.specs.PlainReading.{Operator, every, some, operator_text, operators, link_text, Word, true_unit, false_unit, binder, words, word_text, first_with, begins_some, Hole, first_of, second_of, under, depth_of, Around, alone, in_term, in_atom, depth_around, Reading, at_formula, in_word, at_name, in_name, behind_formula, in_operator, at_term, in_function, at_eigen, in_eigen, at_index, in_index, behind_term, Next, on, whole_term, whole_formula, wrong, args_onto, end_formula, end_term, end_name, end_function, is_keyword, after_word, end_word, ljf_word, next_in_word, first_byte, next_operator, can_grow, grown, next, Use}
 use Rattle.plain_form.specs.PlainForm.{begins_name, HasOperator, GivesBack, plain_term, plain_formula}
 use Rattle.plain_form.proofs.Lookups.{EachOf, first_with-some}
 use Rattle.plain_form.proofs.Begun.{done_before, holes_before, around_before, begun_before, Spells, args_before-args_onto, plain_formula-binary, IsLive, IsLiveWord}

@@ -12,3 +12,4 @@ pub mod Renaming
 pub mod Texts
 pub mod LineEnds
 pub mod Proper
+pub mod Laws

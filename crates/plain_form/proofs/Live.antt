@@ -1,5 +1,5 @@
 -- A byte that may come leaves a reading that may become whole.
-use Rattle.std.proofs.Common.{◌≡◌, ℕ, zero, suc, ◌+◌, ◌-◌, ◌*◌, ◌<◌, ◌≤◌, Bool, true, false, if◌then◌else◌, ◌&&◌, List, [], ◌∷◌, ◌++◌, Option, Some, None, codes, refl, sym, ap, ◌∙◌, subst, arith, nat_eq, nat_lt, nat_le}
+use Rattle.std.proofs.Common.{◌≡◌, ℕ, ◌-◌, ◌<◌, Bool, true, false, if◌then◌else◌, ◌&&◌, List, [], ◌∷◌, ◌++◌, Option, Some, None, refl, ap, ◌∙◌, arith, nat_eq, nat_lt, nat_le}
 use Rattle.std.proofs.lemmas.Bool.{and_parts}
 use Rattle.std.proofs.lemmas.Bool.Decides.{nat_tests}
 use Rattle.fpc_base.specs.Tokens.{is_digit}
@@ -7,10 +7,8 @@ use Rattle.fpc_terms.specs.Name.{is_small_letter, is_name_byte}
 use Rattle.fpc_terms.specs.Term.{Term, Args, eigen, bound, app, no_args, arg}
 use Rattle.polarised_formulas.specs.declared.logic.Logic.{Logic}
 use Rattle.polarised_formulas.specs.declared.logic.Logic.TheVariants.{Lkf, Ljf}
-use Rattle.polarised_formulas.specs.declared.logic.Polarity.{Polarity}
-use Rattle.polarised_formulas.specs.declared.logic.Polarity.TheVariants.{Positive, Negative}
-use Rattle.polarised_formulas.specs.Formula.{Formula, truth, falsity, atom, conj, disj, implies, for_all, exists}
-use Rattle.plain_form.specs.PlainReading.{Operator, conjunction, disjunction, implication, Quantifier, every, some, binary, quantified, operators, link_text, Word, true_unit, false_unit, binder, words, word_text, first_with, begins_some, Hole, first_of, second_of, under, depth_of, Around, alone, in_term, in_atom, depth_around, Reading, at_formula, in_word, at_name, in_name, behind_formula, in_operator, at_term, in_function, at_eigen, in_eigen, at_index, in_index, behind_term, Next, on, whole_term, whole_formula, wrong, args_onto, end_formula, end_term, end_name, end_function, is_keyword, after_word, end_word, ljf_word, next_in_word, first_byte, next_operator, can_grow, grown, next, Use}
+use Rattle.polarised_formulas.specs.Formula.{Formula, atom, for_all, exists}
+use Rattle.plain_form.specs.PlainReading.{Operator, conjunction, disjunction, implication, every, some, binary, operators, link_text, Word, true_unit, false_unit, binder, words, word_text, first_with, begins_some, Hole, first_of, second_of, under, depth_of, Around, alone, in_term, in_atom, depth_around, Reading, at_formula, in_word, at_name, in_name, behind_formula, in_operator, at_term, in_function, at_eigen, in_eigen, at_index, in_index, behind_term, Next, args_onto, end_formula, end_term, end_name, end_function, is_keyword, after_word, end_word, ljf_word, next_in_word, first_byte, next_operator, can_grow, grown, next, Use}
 use Rattle.plain_form.specs.PlainForm.{begins_name, HasOperator, HasFalsity, GivesBack, IsPlainName, IsPlainTerm, ArePlainTerms, IsPlainFormula}
 use Rattle.plain_form.proofs.Lookups.{EachOf, first_with-some, begins_name-snoc, begins_name-one}
 use Rattle.plain_form.proofs.Begun.{IsLive, IsLiveWord, AreLiveHoles, IsLiveAround, IsLiveNext, ArePlainDone}

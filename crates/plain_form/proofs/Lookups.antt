@@ -1,6 +1,6 @@
 -- What a look-up in a list of words tells, and names byte by byte.
-use Rattle.std.proofs.Common.{◌≡◌, ℕ, zero, suc, ◌<◌, Bool, true, false, if◌then◌else◌, ◌&&◌, ◌||◌, ◌⊎◌, List, [], ◌∷◌, ◌++◌, Option, Some, None, codes, drop, length, refl, sym, ap, ◌∙◌, subst, inl, inr, nat_eq}
-use Rattle.std.specs.List.{list_any, list_all, starts_with}
+use Rattle.std.proofs.Common.{◌≡◌, ℕ, Bool, true, false, if◌then◌else◌, ◌⊎◌, List, [], ◌∷◌, ◌++◌, Some, None, codes, drop, length, refl, sym, ap, subst, inl, inr, nat_eq}
+use Rattle.std.specs.List.{list_all, starts_with}
 use Rattle.std.specs.Str.{bytes_eq}
 use Rattle.std.proofs.lemmas.Bool.{and_parts, and_from, or_cases, or_from, both_ways, false_from_ne_true, eqb-false}
 use Rattle.std.proofs.lemmas.List.{same_from_push}
@@ -8,8 +8,7 @@ use Rattle.std.proofs.lemmas.Bool.Decides.{Decides-eqb}
 use Rattle.std.proofs.lemmas.Slice.Eq.{bytes_eq-Decides, starts_is}
 use Rattle.fpc_base.specs.Tokens.{is_one_of, keywords}
 use Rattle.fpc_terms.specs.Name.{is_small_letter, is_name_byte}
-use Rattle.polarised_formulas.specs.declared.logic.Logic.{Logic}
-use Rattle.polarised_formulas.specs.declared.logic.Logic.TheVariants.{Lkf, Ljf}
+use Rattle.polarised_formulas.specs.declared.logic.Logic.TheVariants.{Lkf}
 use Rattle.polarised_formulas.specs.declared.logic.Polarity.TheVariants.{Positive, Negative}
 use Rattle.plain_form.specs.PlainReading.{first_with, begins_some, is_keyword, Word, true_unit, false_unit, binder, every, some, word_text, words}
 use Rattle.plain_form.specs.PlainForm.{begins_name}

@@ -1,12 +1,11 @@
 -- The numbering of a table of different names agrees with it, and each name has its text by its number.
-use Rattle.std.proofs.Common.{◌≡◌, ℕ, zero, suc, ◌+◌, ◌-◌, ◌*◌, ◌/◌, ◌%◌, ◌<◌, ◌≤◌, Bool, true, false, if◌then◌else◌, ◌⊎◌, inl, inr, List, [], ◌∷◌, ◌++◌, length, get_or, Option, Some, None, slice_get, refl, sym, ap, ap₂, ◌∙◌, subst, arith, nat_eq, nat_lt, nat_le}
+use Rattle.std.proofs.Common.{◌≡◌, ℕ, zero, suc, ◌+◌, ◌-◌, ◌*◌, ◌/◌, ◌%◌, ◌<◌, ◌≤◌, Bool, true, false, List, [], ◌∷◌, length, get_or, Some, slice_get, refl, ap, ap₂, ◌∙◌, arith, nat_lt, nat_le}
 use Rattle.std.specs.List.{list_all}
 use Rattle.std.specs.Str.{bytes_eq}
-use Rattle.std.proofs.lemmas.Bool.{and_parts, or_cases, cond-true, cond-false}
+use Rattle.std.proofs.lemmas.Bool.{and_parts, cond-true, cond-false}
 use Rattle.std.proofs.lemmas.Bool.Decides.{nat_tests}
 use Rattle.std.proofs.lemmas.Slice.Eq.{bytes_eq-Decides}
-use Rattle.fpc_terms.specs.Name.{is_small_letter, is_name_byte, is_from_to, Agrees, AreDifferent}
-use Rattle.fpc_terms.specs.Text.{name_in}
+use Rattle.fpc_terms.specs.Name.{is_small_letter, is_name_byte, Agrees, AreDifferent}
 use Rattle.plain_form.specs.Numbering.{code, decode, number_from, number_in, text_in}
 use Rattle.plain_form.specs.PlainForm.{begins_name, GivesBack}
 

@@ -1,11 +1,10 @@
 -- What is plain is of the logic, and has no variable and no free bound index.
 use Rattle.std.proofs.Common.{◌≡◌, ℕ, suc, ◌<◌, Bool, List}
-use Rattle.fpc_terms.specs.Term.{Term, Args, eigen, bound, variable, app, no_args, arg, Each, EachArg, Never, Always, IsProperTerm}
+use Rattle.fpc_terms.specs.Term.{Term, Args, eigen, bound, variable, app, no_args, arg, Each, EachArg, Never}
 use Rattle.polarised_formulas.specs.declared.logic.Logic.{Logic}
 use Rattle.polarised_formulas.specs.declared.logic.Logic.TheVariants.{Lkf, Ljf}
-use Rattle.polarised_formulas.specs.declared.logic.Polarity.{Polarity}
 use Rattle.polarised_formulas.specs.declared.logic.Polarity.TheVariants.{Positive, Negative}
-use Rattle.polarised_formulas.specs.Formula.{Formula, truth, falsity, atom, conj, disj, implies, for_all, exists, EachInside, Tied, IsProper, IsLkf, IsLjf, IsOfLogic}
+use Rattle.polarised_formulas.specs.Formula.{Formula, truth, falsity, atom, conj, disj, implies, for_all, exists, EachInside, Tied, IsLkf, IsLjf, IsOfLogic}
 use Rattle.plain_form.specs.PlainForm.{IsPlainTerm, ArePlainTerms, IsPlainFormula, PlainTermIsProper, PlainFormulaIsProper}
 
 module _ (text : ℕ → List ℕ) (number : List ℕ → ℕ) (e : ℕ → Type 0) (any : (k : ℕ) → k < 1000000000 → e k) where

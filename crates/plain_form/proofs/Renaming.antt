@@ -1,12 +1,12 @@
 -- A term or formula with other numbers for its names.
-use Rattle.std.proofs.Common.{◌≡◌, ℕ, zero, suc, ◌+◌, ◌<◌, ◌≤◌, Bool, List, [], ◌∷◌, ◌++◌, codes, decimal, refl, sym, ap, ap₂, ◌∙◌, subst, arith}
+use Rattle.std.proofs.Common.{◌≡◌, ℕ, suc, ◌+◌, ◌<◌, ◌≤◌, List, [], ◌∷◌, ◌++◌, codes, refl, ap, ap₂, ◌∙◌, arith}
 use Rattle.fpc_terms.specs.Term.{Term, Args, eigen, bound, variable, app, no_args, arg}
 use Rattle.fpc_terms.specs.Text.{args_before, more_before, plain_leaves}
 use Rattle.polarised_formulas.specs.declared.logic.Logic.{Logic}
 use Rattle.polarised_formulas.specs.Formula.{Formula, truth, falsity, atom, conj, disj, implies, for_all, exists}
-use Rattle.polarised_formulas.specs.Text.{mark_text, truth_text, falsity_text, operator_before}
+use Rattle.polarised_formulas.specs.Text.{mark_text, operator_before}
 use Rattle.plain_form.specs.PlainReading.{Operator, conjunction, disjunction, implication, operator_text, is_keyword, Use, of_term, of_formula}
-use Rattle.plain_form.specs.PlainForm.{begins_name, IsPlainName, IsPlainTerm, ArePlainTerms, IsPlainFormula, plain_term, plain_formula, GivesBack, IsLine, BeginsLine}
+use Rattle.plain_form.specs.PlainForm.{begins_name, IsPlainName, IsPlainTerm, ArePlainTerms, IsPlainFormula, plain_term, plain_formula, GivesBack, IsLine}
 
 abbrev mutual
   pub rename_term : (ℕ → ℕ) → Term → Term

@@ -1,5 +1,5 @@
 -- Texts without the end of their line, and with the names of a table.
-use Rattle.std.proofs.Common.{◌≡◌, ℕ, zero, suc, ◌+◌, ◌<◌, ◌≤◌, Bool, true, false, if◌then◌else◌, ◌↔◌, List, [], ◌∷◌, ◌++◌, length, get_or, Option, Some, None, slice_get, refl, sym, ap, ◌∙◌, subst, arith, nat_lt, append_assoc, append-nil}
+use Rattle.std.proofs.Common.{◌≡◌, ℕ, zero, suc, ◌+◌, ◌<◌, true, List, [], ◌∷◌, ◌++◌, length, Some, slice_get, refl, sym, ap, ◌∙◌, subst, arith, nat_lt, append_assoc, append-nil}
 use Rattle.std.proofs.lemmas.Bool.{cond-true}
 use Rattle.std.proofs.lemmas.Bool.Decides.{nat_tests}
 use Rattle.std.proofs.lemmas.List.{same_from_push}
@@ -9,8 +9,8 @@ use Rattle.fpc_terms.specs.Text.{name_in, term_text}
 use Rattle.polarised_formulas.specs.declared.logic.Logic.{Logic}
 use Rattle.polarised_formulas.specs.Formula.{Formula}
 use Rattle.polarised_formulas.specs.Text.{plain_text}
-use Rattle.plain_form.specs.PlainReading.{Reading, Next, on, whole_term, whole_formula, wrong, go, run, Use, of_term, of_formula, start, IsGoing, is_keyword}
-use Rattle.plain_form.specs.PlainForm.{begins_name, GivesBack, IsPlainName, IsPlainTerm, IsPlainFormula, IsLine, BeginsLine, plain_term, plain_formula}
+use Rattle.plain_form.specs.PlainReading.{Next, on, whole_term, whole_formula, wrong, run, Use, of_term, of_formula, start, IsGoing, is_keyword}
+use Rattle.plain_form.specs.PlainForm.{begins_name, IsPlainName, IsPlainTerm, IsPlainFormula, IsLine, plain_term, plain_formula}
 use Rattle.plain_form.specs.Numbering.{number_in, text_in}
 use Rattle.plain_form.specs.PlainTexts.{IsText, BeginsText, IsOn, OnBegins, IsPlainTermIn, IsPlainIn, ReadsTerm, ReadsFormula, TermIsRead, FormulaIsRead}
 use Rattle.plain_form.proofs.Forward.{run-append}

@@ -10,7 +10,7 @@ use Rattle.polarised_formulas.specs.declared.logic.Polarity.{Polarity}
 use Rattle.polarised_formulas.specs.declared.logic.Polarity.TheVariants.{Positive, Negative}
 use Rattle.polarised_formulas.specs.Formula.{Formula, truth, falsity, atom, conj, disj, implies, for_all, exists, IsProper, IsOfLogic}
 use Rattle.polarised_formulas.specs.Text.{formula_before, plain_style}
-use Rattle.plain_form.specs.PlainReading.{Operator, conjunction, disjunction, implication, is_keyword, Next, whole_term, whole_formula, run, Use, of_term, of_formula, start, IsGoing}
+use Rattle.plain_form.specs.PlainReading.{Operator, conjunction, disjunction, implication, is_keyword, whole_term, whole_formula, run, Use, of_term, of_formula, start, IsGoing}
 
 -- a small letter, and then letters, digits and `_`
 abbrev pub begins_name : List ℕ → Bool

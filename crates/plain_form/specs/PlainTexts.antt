@@ -1,5 +1,5 @@
 -- Plain texts without the end of their line, with the names of a table, and what a reader tells of bytes.
-use Rattle.std.specs.Prelude.{◌≡◌, ℕ, suc, ◌↔◌, if◌then◌else◌, nat_eq, nat_lt, nat_le, false, List, [], ◌∷◌, ◌++◌, length, Option, Some, None}
+use Rattle.std.specs.Prelude.{◌≡◌, ℕ, suc, ◌≤◌, ◌↔◌, if◌then◌else◌, nat_eq, nat_lt, nat_le, false, List, [], ◌∷◌, ◌++◌, length, Option, Some, None}
 use Rattle.fpc_base.specs.declared.refusal.Code.{Code}
 use Rattle.fpc_base.specs.declared.refusal.Code.TheVariants.{Unexpected, TooDeep, LongName, ManyArguments}
 use Rattle.fpc_terms.specs.Name.{Agrees, AreDifferent}
@@ -10,7 +10,7 @@ use Rattle.polarised_formulas.specs.Formula.{Formula}
 use Rattle.polarised_formulas.specs.Text.{plain_text}
 use Rattle.plain_form.specs.PlainReading.{Around, alone, in_term, in_atom, Reading, at_formula, in_word, in_name, in_function, at_term, Next, on, whole_term, whole_formula, wrong, next, run, Use, of_term, of_formula, start}
 use Rattle.plain_form.specs.PlainForm.{IsPlainTerm, IsPlainFormula, plain_term, plain_formula, IsLine, GivesBack}
-use Rattle.plain_form.specs.Numbering.{number_in}
+use Rattle.plain_form.specs.Numbering.{number_in, text_in}
 
 -- the bytes are the text of what is wanted: a term, or a formula of the logic
 abbrev pub IsText : (ℕ → List ℕ) → (List ℕ → ℕ) → Logic → Use → List ℕ → Type 0
@@ -106,3 +106,7 @@ fault_of q (on r) = limit_of q r
 fault_of q (whole_term t) = None
 fault_of q (whole_formula f) = None
 fault_of q wrong = Some Unexpected
+
+-- the numbering of a table of different names agrees with it, and gives all names back
+abbrev pub TableHasNumbering : Type 0
+TableHasNumbering = (least : ℕ) (names : List (List ℕ)) → AreDifferent names → length names ≤ least → Agrees (number_in least names) names × GivesBack (text_in least names) (number_in least names)
