@@ -13,3 +13,4 @@ pub mod Texts
 pub mod LineEnds
 pub mod Proper
 pub mod Laws
+pub mod Fitting

@@ -2,3 +2,4 @@ pub mod PlainReading
 pub mod PlainForm
 pub mod Numbering
 pub mod PlainTexts
+pub mod PlainLimits

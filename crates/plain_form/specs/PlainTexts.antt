@@ -71,42 +71,6 @@ TermIsRead = (names : List (List ℕ)) → AreDifferent names → (logic : Logic
 abbrev pub FormulaIsRead : Type 0
 FormulaIsRead = (names : List (List ℕ)) → AreDifferent names → (logic : Logic) (bytes : List ℕ) (f : Formula) → ReadsFormula names logic bytes f ↔ (IsPlainIn names logic f × (plain_text names logic f ≡ bytes))
 
--- the bytes of the name in progress
-abbrev pub name_length : Reading → ℕ
-name_length (in_word hs w) = length w
-name_length (in_name hs positive w) = length w
-name_length (in_function up w) = length w
-name_length _ = 0
-
--- the arguments of the innermost name that are read
-abbrev pub arguments_of : Around → ℕ
-arguments_of alone = 0
-arguments_of (in_term f ts up) = length ts
-arguments_of (in_atom hs positive f ts) = length ts
-
--- the arguments in front of the one that comes
-abbrev pub arguments_before : Reading → ℕ
-arguments_before (at_term up) = arguments_of up
-arguments_before _ = 0
-
--- the nesting of the formula that comes: 1 of the whole, one more in each part
-abbrev pub nesting : Reading → ℕ
-nesting (at_formula hs) = suc (length hs)
-nesting _ = 0
-
--- what is told of a byte that leads from the first reading to the second one: a formula begins too deep, a name is too long, or one argument too many comes
-abbrev pub limit_of : Reading → Reading → Option Code
-limit_of q r =
-    if nat_lt 10000 (nesting q) then Some TooDeep
-    else if nat_lt 255 (name_length r) then Some LongName else if nat_le 255 (arguments_before r) then Some ManyArguments else None
-
--- what is told of a byte behind a reading; a limit only where the byte may come
-abbrev pub fault_of : Reading → Next → Option Code
-fault_of q (on r) = limit_of q r
-fault_of q (whole_term t) = None
-fault_of q (whole_formula f) = None
-fault_of q wrong = Some Unexpected
-
 -- the numbering of a table of different names agrees with it, and gives all names back
 abbrev pub TableHasNumbering : Type 0
 TableHasNumbering = (least : ℕ) (names : List (List ℕ)) → AreDifferent names → length names ≤ least → Agrees (number_in least names) names × GivesBack (text_in least names) (number_in least names)
