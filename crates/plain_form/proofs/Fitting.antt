@@ -106,7 +106,7 @@ module _ (text : ℕ → List ℕ) where
   FitsNext (whole_formula f) = FitsFormula text 0 f
   FitsNext wrong = ⊥
 
-  FitArgs-args_onto : (ts : List Term) (us : Args) → DoneFit ts → FitArgs text us → FitArgs text (args_onto ts us)
+  pub FitArgs-args_onto : (ts : List Term) (us : Args) → DoneFit ts → FitArgs text us → FitArgs text (args_onto ts us)
   FitArgs-args_onto [] us h k = k
   FitArgs-args_onto (t ∷ ts) us h k = FitArgs-args_onto ts (arg t us) h.1 (h.0, k)
 
@@ -114,7 +114,7 @@ module _ (text : ℕ → List ℕ) where
   args_onto-fit [] us h = (tt, h)
   args_onto-fit (t ∷ ts) us h = let r = args_onto-fit ts (arg t us) h in ((r.1.0, r.0), r.1.1)
 
-  FitsFormula-binary : (n : ℕ) (o : Operator) (a b : Formula) → (n < 10000) × FitsFormula text (suc n) a × FitsFormula text (suc n) b → FitsFormula text n (binary o a b)
+  pub FitsFormula-binary : (n : ℕ) (o : Operator) (a b : Formula) → (n < 10000) × FitsFormula text (suc n) a × FitsFormula text (suc n) b → FitsFormula text n (binary o a b)
   FitsFormula-binary n (conjunction p) a b h = h
   FitsFormula-binary n (disjunction p) a b h = h
   FitsFormula-binary n implication a b h = h
@@ -128,7 +128,7 @@ module _ (text : ℕ → List ℕ) where
   quantified-fits n every f h = h
   quantified-fits n some f h = h
 
-  FitsFormula-quantified : (n : ℕ) (q : Quantifier) (f : Formula) → (n < 10000) × FitsFormula text (suc n) f → FitsFormula text n (quantified q f)
+  pub FitsFormula-quantified : (n : ℕ) (q : Quantifier) (f : Formula) → (n < 10000) × FitsFormula text (suc n) f → FitsFormula text n (quantified q f)
   FitsFormula-quantified n every f h = h
   FitsFormula-quantified n some f h = h
 
@@ -146,7 +146,7 @@ module _ (text : ℕ → List ℕ) where
   closed-few : (ts : List Term) (t : Term) → count (args_onto ts (arg t no_args)) ≤ 255 → length ts < 255
   closed-few ts t h = let e = count-args_onto ts (arg t no_args) in omega arith
 
-  few-closed : (ts : List Term) (t : Term) → length ts < 255 → count (args_onto ts (arg t no_args)) ≤ 255
+  pub few-closed : (ts : List Term) (t : Term) → length ts < 255 → count (args_onto ts (arg t no_args)) ≤ 255
   few-closed ts t h = let e = count-args_onto ts (arg t no_args) in omega arith
 
   back-end_term : (up : Around) (t : Term) (b : ℕ) → FitsNext (end_term up t b) → FitsTerm text t × AroundFits up

@@ -14,3 +14,5 @@ pub mod LineEnds
 pub mod Proper
 pub mod Laws
 pub mod Fitting
+pub mod Keeping
+pub mod Outcomes
