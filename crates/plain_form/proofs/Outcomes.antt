@@ -47,6 +47,7 @@ module _ (text : ℕ → List ℕ) (number : List ℕ → ℕ) (back : GivesBack
   forth-end : (q : Reading) → IsLive text number logic wanted q → Fits text q → (place : ℕ) → outcome_at_end place (next number logic q 10) ≡ o → Reaches (on q) []
   forth-end q live fits place e = by (next number logic q 10) refl (ahead-next text number back logic wanted q 10 live fits)
     where
+      same : next number logic q 10 ≡ w
       same = gives.only place (next number logic q 10) e
       by : (m : Next) → next number logic q 10 ≡ m → Ahead text (nesting q) m → Reaches (on q) []
       by (on r) h a = absurd (gives.not_refused Unexpected place (ap (outcome_at_end place) (sym h) ∙ e))
@@ -56,7 +57,7 @@ module _ (text : ℕ → List ℕ) (number : List ℕ → ℕ) (back : GivesBack
 
   forth-step : (q : Reading) (m : Next) → Ahead text (nesting q) m → (bs : List ℕ) (place : ℕ) → (FitsNext text m → outcome number logic m (suc place) bs ≡ o → Reaches m bs)
       → unless_refused (fault_inside q m) place (outcome number logic m (suc place) bs) ≡ o → Reaches m bs
-  forth-step q (on r) a bs place rec = by (limit_of q r) refl
+  forth-step q (on r) a bs place rec e = by (limit_of q r) refl e
     where
       by : (c : Option Code) → limit_of q r ≡ c → unless_refused c place (outcome number logic (on r) (suc place) bs) ≡ o → Reaches (on r) bs
       by (Some code) h e = absurd (gives.not_refused code place e)
