@@ -16,3 +16,4 @@ pub mod Laws
 pub mod Fitting
 pub mod Keeping
 pub mod Outcomes
+pub mod TableOutcomes

@@ -85,44 +85,51 @@ got (t ∷ ts) (suc g) h = got ts g h
 
 module _ (names : List (List ℕ)) (differ : AreDifferent names) where
   -- a name with a small number is the same in a numbering with a large least number
-  table_name : (least g : ℕ) → g < least → IsPlainName (text_in least names) (number_in least names) g → IsPlainName (name_in names) (number_in (length names) names) g × (name_in names g ≡ text_in least names g)
+  pub table_name : (least g : ℕ) → g < least → IsPlainName (text_in least names) (number_in least names) g → IsPlainName (name_in names) (number_in (length names) names) g × (name_in names g ≡ text_in least names g)
   table_name least g low p =
       let l : nat_lt g least ≡ true = grind (arith, nat_tests) in
       let e : text_in least names g ≡ name_in names g = cond-true (nat_lt g least) _ _ l in
       let h : begins_name (name_in names g) ≡ true = ap begins_name (sym e) ∙ p.0 in
       ((h, ap is_keyword (sym e) ∙ p.1, Agrees-number_in (length names) names differ g (name_in names g) (got names g h)), sym e)
 
-  agreeing : (number : List ℕ → ℕ) → Agrees number names → (limit g : ℕ) → g < limit → IsPlainName (name_in names) (number_in (length names) names) g → IsPlainName (name_in names) number g × (name_in names g ≡ name_in names g)
+  pub agreeing : (number : List ℕ → ℕ) → Agrees number names → (limit g : ℕ) → g < limit → IsPlainName (name_in names) (number_in (length names) names) g → IsPlainName (name_in names) number g × (name_in names g ≡ name_in names g)
   agreeing number agrees limit g low p = ((p.0, p.1, agrees g (name_in names g) (got names g p.0)), refl)
 
   module _ (logic : Logic) (bytes : List ℕ) where
-    formula_forth : (f : Formula) → ReadsFormula names logic bytes f → IsPlainIn names logic f × (plain_text names logic f ≡ bytes)
-    formula_forth f h =
+    -- one reading tells it: by the numbering that keeps all names of the formula apart from the texts outside the table
+    pub formula_from : (f : Formula) → run (number_in (length names + name_bound f) names) logic (start of_formula) (bytes ++ 10 ∷ []) ≡ whole_formula f → IsPlainIn names logic f × (plain_text names logic f ≡ bytes)
+    formula_from f h =
         let least = length names + name_bound f in
-        let w = (formula_is_whole (text_in least names) (number_in least names) (GivesBack-number_in least names (omega arith)) logic (bytes ++ 10 ∷ []) f).0 (h (number_in least names) (Agrees-number_in least names differ)) in
+        let w = (formula_is_whole (text_in least names) (number_in least names) (GivesBack-number_in least names (omega arith)) logic (bytes ++ 10 ∷ []) f).0 h in
         let m = move_formula (text_in least names) (name_in names) (number_in least names) (number_in (length names) names) (λ g. g) least (table_name least) logic f 0 (omega arith) w.0 in
         let e = rename-same f in
         let plain : IsPlainIn names logic f = subst (IsPlainIn names logic) e m.0 in
         let same : plain_formula (name_in names) logic 0 f (10 ∷ []) ≡ bytes ++ 10 ∷ [] = ap (λ g. plain_formula (name_in names) logic 0 g (10 ∷ [])) (sym e) ∙ m.1 (10 ∷ []) ∙ w.1 in
         (plain, (same_from_push (plain_text names logic f) bytes 10 10 (sym (plain_formula-append (name_in names) (10 ∷ []) logic 0 f []) ∙ same)).0)
 
-    formula_back : (f : Formula) → IsPlainIn names logic f × (plain_text names logic f ≡ bytes) → ReadsFormula names logic bytes f
+    formula_forth : (f : Formula) → ReadsFormula names logic bytes f → IsPlainIn names logic f × (plain_text names logic f ≡ bytes)
+    formula_forth f h = formula_from f (h (number_in (length names + name_bound f) names) (Agrees-number_in (length names + name_bound f) names differ))
+
+    pub formula_back : (f : Formula) → IsPlainIn names logic f × (plain_text names logic f ≡ bytes) → ReadsFormula names logic bytes f
     formula_back f h number agrees =
         let m = move_formula (name_in names) (name_in names) (number_in (length names) names) number (λ g. g) (name_bound f) (agreeing number agrees (name_bound f)) logic f 0 (omega arith) h.0 in
         let plain : IsPlainFormula (name_in names) number logic 0 f = subst (IsPlainFormula (name_in names) number logic 0) (rename-same f) m.0 in
         ap (run number logic (start of_formula)) (ap (λ v. v ++ 10 ∷ []) (sym h.1) ∙ sym (plain_formula-append (name_in names) (10 ∷ []) logic 0 f [])) ∙ formula_read (name_in names) number logic f plain
 
-    term_forth : (t : Term) → ReadsTerm names logic bytes t → IsPlainTermIn names t × (term_text names t ≡ bytes)
-    term_forth t h =
+    pub term_from : (t : Term) → run (number_in (length names + term_bound t) names) logic (start of_term) (bytes ++ 10 ∷ []) ≡ whole_term t → IsPlainTermIn names t × (term_text names t ≡ bytes)
+    term_from t h =
         let least = length names + term_bound t in
-        let w = (term_is_whole (text_in least names) (number_in least names) (GivesBack-number_in least names (omega arith)) logic (bytes ++ 10 ∷ []) t).0 (h (number_in least names) (Agrees-number_in least names differ)) in
+        let w = (term_is_whole (text_in least names) (number_in least names) (GivesBack-number_in least names (omega arith)) logic (bytes ++ 10 ∷ []) t).0 h in
         let m = move_term (text_in least names) (name_in names) (number_in least names) (number_in (length names) names) (λ g. g) least (table_name least) t 0 (omega arith) w.0 in
         let e = rename_term-same t in
         let plain : IsPlainTermIn names t = subst (IsPlainTermIn names) e m.0 in
         let same : plain_term (name_in names) t (10 ∷ []) ≡ bytes ++ 10 ∷ [] = ap (λ u. plain_term (name_in names) u (10 ∷ [])) (sym e) ∙ m.1 (10 ∷ []) ∙ w.1 in
         (plain, (same_from_push (term_text names t) bytes 10 10 (sym (plain_term-append (name_in names) (10 ∷ []) t []) ∙ same)).0)
 
-    term_back : (t : Term) → IsPlainTermIn names t × (term_text names t ≡ bytes) → ReadsTerm names logic bytes t
+    term_forth : (t : Term) → ReadsTerm names logic bytes t → IsPlainTermIn names t × (term_text names t ≡ bytes)
+    term_forth t h = term_from t (h (number_in (length names + term_bound t) names) (Agrees-number_in (length names + term_bound t) names differ))
+
+    pub term_back : (t : Term) → IsPlainTermIn names t × (term_text names t ≡ bytes) → ReadsTerm names logic bytes t
     term_back t h number agrees =
         let m = move_term (name_in names) (name_in names) (number_in (length names) names) number (λ g. g) (term_bound t) (agreeing number agrees (term_bound t)) t 0 (omega arith) h.0 in
         let plain : IsPlainTerm (name_in names) number 0 t = subst (IsPlainTerm (name_in names) number 0) (rename_term-same t) m.0 in
