@@ -17,3 +17,4 @@ pub mod Fitting
 pub mod Keeping
 pub mod Outcomes
 pub mod TableOutcomes
+pub mod Refusals

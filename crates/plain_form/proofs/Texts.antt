@@ -30,7 +30,7 @@ ends b [] = record { front = []; last = b; whole = refl }
 ends b (c ∷ bs) = let e = ends c bs in record { front = b ∷ e.front; last = e.last; whole = ap (λ v. b ∷ v) e.whole }
 
 module _ (text : ℕ → List ℕ) (number : List ℕ → ℕ) (logic : Logic) where
-  line_from_text : (wanted : Use) (bytes : List ℕ) → IsText text number logic wanted bytes → IsLine text number logic wanted (bytes ++ 10 ∷ [])
+  pub line_from_text : (wanted : Use) (bytes : List ℕ) → IsText text number logic wanted bytes → IsLine text number logic wanted (bytes ++ 10 ∷ [])
   line_from_text of_term bytes h = (h.0, h.1, plain_term-append text (10 ∷ []) h.0 [] ∙ ap (λ v. v ++ 10 ∷ []) h.2)
   line_from_text of_formula bytes h = (h.0, h.1, plain_formula-append text (10 ∷ []) logic 0 h.0 [] ∙ ap (λ v. v ++ 10 ∷ []) h.2)
 

@@ -1,5 +1,5 @@
 -- The limits of plain texts, and what a reader of a whole text tells of its bytes.
-use Rattle.std.specs.Prelude.{◌≡◌, ℕ, suc, ◌<◌, ◌≤◌, ◌↔◌, if◌then◌else◌, nat_lt, nat_le, List, [], ◌∷◌, length, Option, Some, None}
+use Rattle.std.specs.Prelude.{◌≡◌, ℕ, suc, ◌<◌, ◌≤◌, ◌↔◌, if◌then◌else◌, nat_lt, nat_le, List, [], ◌∷◌, ◌++◌, length, Option, Some, None}
 use Rattle.fpc_base.specs.declared.refusal.Code.{Code}
 use Rattle.fpc_base.specs.declared.refusal.Code.TheVariants.{Unexpected, TooDeep, LongName, ManyArguments}
 use Rattle.fpc_terms.specs.Name.{Agrees, AreDifferent}
@@ -8,9 +8,9 @@ use Rattle.fpc_terms.specs.Text.{name_in, term_text}
 use Rattle.polarised_formulas.specs.declared.logic.Logic.{Logic}
 use Rattle.polarised_formulas.specs.Formula.{Formula, truth, falsity, atom, conj, disj, implies, for_all, exists}
 use Rattle.polarised_formulas.specs.Text.{plain_text}
-use Rattle.plain_form.specs.PlainReading.{Around, alone, in_term, in_atom, Reading, at_formula, in_word, at_name, in_name, behind_formula, in_operator, at_term, in_function, at_eigen, in_eigen, at_index, in_index, behind_term, Next, on, whole_term, whole_formula, wrong, next, Use, of_term, of_formula, start}
+use Rattle.plain_form.specs.PlainReading.{Around, alone, in_term, in_atom, Reading, at_formula, in_word, at_name, in_name, behind_formula, in_operator, at_term, in_function, at_eigen, in_eigen, at_index, in_index, behind_term, Next, on, whole_term, whole_formula, wrong, next, run, Use, of_term, of_formula, start}
 use Rattle.plain_form.specs.PlainForm.{GivesBack}
-use Rattle.plain_form.specs.PlainTexts.{IsPlainTermIn, IsPlainIn}
+use Rattle.plain_form.specs.PlainTexts.{IsText, BeginsText, IsPlainTermIn, IsPlainIn}
 
 -- the bytes of the name in progress
 abbrev pub name_length : Reading → ℕ
@@ -144,3 +144,25 @@ TermOutcome = (names : List (List ℕ)) → AreDifferent names → (logic : Logi
 abbrev pub FormulaOutcome : Type 0
 FormulaOutcome = (names : List (List ℕ)) → AreDifferent names → (logic : Logic) (bytes : List ℕ) (f : Formula)
     → HasOutcome names logic of_formula bytes (a_formula f) ↔ (IsPlainIn names logic f × FitsFormula (name_in names) 0 f × (plain_text names logic f ≡ bytes))
+
+-- What is told behind the first bytes: at the end that they are no text, and of a byte either a limit, where it goes on to begin a text, or that it does not.
+abbrev pub IsTold : (ℕ → List ℕ) → (List ℕ → ℕ) → Logic → Use → Reading → List ℕ → Code → List ℕ → Type 0
+IsTold text number logic wanted q front code [] = (code ≡ Unexpected) × ¬ (IsText text number logic wanted front)
+IsTold text number logic wanted q front code (b ∷ more) =
+    (fault_inside q (next number logic q b) ≡ Some code) × (code ≡ Unexpected → ¬ (BeginsText text number logic wanted (front ++ b ∷ []))) × (¬ (code ≡ Unexpected) → BeginsText text number logic wanted (front ++ b ∷ []))
+
+-- The code is told of the bytes at a place: the bytes in front of it begin a text, and lead to the reading.
+pub record IsRefused (text : ℕ → List ℕ) (number : List ℕ → ℕ) (logic : Logic) (wanted : Use) (bytes : List ℕ) (code : Code) (place : ℕ) : Type 0 where
+  pub front : List ℕ
+  pub rest : List ℕ
+  pub parts : bytes ≡ front ++ rest
+  pub at : length front ≡ place
+  pub reading : Reading
+  pub leads : run number logic (start wanted) front ≡ on reading
+  pub begins : BeginsText text number logic wanted front
+  pub told : IsTold text number logic wanted reading front code rest
+
+-- an outcome that is a refusal is told where it says
+abbrev pub RefusalIsTold : Type 0
+RefusalIsTold = (text : ℕ → List ℕ) (number : List ℕ → ℕ) → GivesBack text number → (logic : Logic) (wanted : Use) (bytes : List ℕ) (code : Code) (place : ℕ)
+    → outcome number logic (start wanted) 0 bytes ≡ refused code place → IsRefused text number logic wanted bytes code place
