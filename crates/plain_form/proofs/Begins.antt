@@ -79,9 +79,10 @@ line_goes text number logic of_term bytes h = subst IsGoing (sym (ap (run number
 line_goes text number logic of_formula bytes h = subst IsGoing (sym (ap (run number logic (start of_formula)) (sym h.2) ∙ formula_read text number logic h.0 h.1)) tt
 
 pub going_begins : GoingBegins
-going_begins text number back logic wanted bytes =
-    (Holds-begins text number back logic wanted (run number logic (start wanted) bytes) bytes (holds text number back logic wanted bytes),
-      λ b. IsGoing-front number logic (run number logic (start wanted) bytes) b.0 (subst IsGoing (run-append number logic (start wanted) bytes b.0) (line_goes text number logic wanted (bytes ++ b.0) b.1)))
+going_begins text number back logic wanted bytes = (
+  Holds-begins text number back logic wanted (run number logic (start wanted) bytes) bytes (holds text number back logic wanted bytes),
+  λ b. IsGoing-front number logic (run number logic (start wanted) bytes) b.0 (subst IsGoing (run-append number logic (start wanted) bytes b.0) (line_goes text number logic wanted (bytes ++ b.0) b.1)),
+)
 
 pub term_is_whole : TermIsWhole
 term_is_whole text number back logic bytes t = (forth, λ h. ap (run number logic (start of_term)) (sym h.1) ∙ term_read text number logic t h.0)

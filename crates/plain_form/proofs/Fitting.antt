@@ -1,5 +1,5 @@
 -- The limits along a reading: where it keeps them, and where they must have been kept.
-use Rattle.std.proofs.Common.{◌≡◌, ℕ, zero, suc, ◌+◌, ◌-◌, ◌<◌, ◌≤◌, Bool, true, false, if◌then◌else◌, ◌&&◌, List, [], ◌∷◌, ◌++◌, length, Option, Some, None, codes, refl, sym, ap, ◌∙◌, subst, arith, nat_eq, nat_lt, nat_le, length-append}
+use Rattle.std.proofs.Common.{◌≡◌, ℕ, suc, ◌+◌, ◌-◌, ◌<◌, ◌≤◌, Bool, true, false, if◌then◌else◌, ◌&&◌, List, [], ◌∷◌, ◌++◌, length, Option, Some, None, refl, sym, ap, ◌∙◌, subst, arith, nat_eq, nat_lt}
 use Rattle.std.proofs.lemmas.Bool.{cond-false}
 use Rattle.std.proofs.lemmas.Bool.Decides.{nat_tests}
 use Rattle.fpc_base.specs.Tokens.{is_digit}
@@ -9,7 +9,7 @@ use Rattle.fpc_terms.specs.Term.{Term, Args, eigen, bound, app, no_args, arg, co
 use Rattle.polarised_formulas.specs.declared.logic.Logic.{Logic}
 use Rattle.polarised_formulas.specs.declared.logic.Logic.TheVariants.{Lkf, Ljf}
 use Rattle.polarised_formulas.specs.declared.logic.Polarity.TheVariants.{Positive, Negative}
-use Rattle.polarised_formulas.specs.Formula.{Formula, truth, falsity, atom, conj, disj, implies, for_all, exists}
+use Rattle.polarised_formulas.specs.Formula.{Formula, atom}
 use Rattle.plain_form.specs.PlainReading.{Operator, conjunction, disjunction, implication, Quantifier, every, some, binary, quantified, operators, link_text, Word, true_unit, false_unit, binder, words, word_text, first_with, begins_some, Hole, first_of, second_of, under, Around, alone, in_term, in_atom, depth_around, Reading, at_formula, in_word, at_name, in_name, behind_formula, in_operator, at_term, in_function, at_eigen, in_eigen, at_index, in_index, behind_term, Next, on, whole_term, whole_formula, wrong, args_onto, end_formula, end_term, end_name, end_function, is_keyword, after_word, end_word, ljf_word, next_in_word, first_byte, next_operator, can_grow, grown, next, Use}
 use Rattle.plain_form.specs.PlainForm.{begins_name, GivesBack}
 use Rattle.plain_form.specs.PlainLimits.{name_length, arguments_of, arguments_before, nesting, limit_of, FitsTerm, FitArgs, FitsFormula}
@@ -54,9 +54,11 @@ limit-within q r h = deep (nat_lt 10000 (nesting q)) refl h
     many : (c : Bool) → nat_lt 254 (arguments_before r) ≡ c → nat_lt 10000 (nesting q) ≡ false → nat_lt 255 (name_length r) ≡ false → (if c then Some ManyArguments else None) ≡ None → Within q r
     many true e d l k = cc
     many false e d l k = record { shallow = grind (arith, nat_tests); short = grind (arith, nat_tests); few = grind (arith, nat_tests) }
+
     long : (c : Bool) → nat_lt 255 (name_length r) ≡ c → nat_lt 10000 (nesting q) ≡ false → (if c then Some LongName else if nat_lt 254 (arguments_before r) then Some ManyArguments else None) ≡ None → Within q r
     long true e d k = cc
     long false e d k = many (nat_lt 254 (arguments_before r)) refl d e k
+
     deep : (c : Bool) → nat_lt 10000 (nesting q) ≡ c → (if c then Some TooDeep else if nat_lt 255 (name_length r) then Some LongName else if nat_lt 254 (arguments_before r) then Some ManyArguments else None) ≡ None → Within q r
     deep true e k = cc
     deep false e k = long (nat_lt 255 (name_length r)) refl e k
@@ -184,13 +186,13 @@ module _ (text : ℕ → List ℕ) where
     back-end_name hs positive w b n =
         back-if _ (is_keyword w) _ _ (λ _ h. absurd h)
         (λ _. back-if _ (nat_eq b 40) _ _ (λ _ h. (h.0, subst (λ v. length v ≤ 255) (back w n) h.1, h.4))
-          (λ _ h. let r = back-end_formula hs (atom positive (number w) no_args) b h in (r.0.0, subst (λ v. length v ≤ 255) (back w n) r.0.1, r.1)))
+        (λ _ h. let r = back-end_formula hs (atom positive (number w) no_args) b h in (r.0.0, subst (λ v. length v ≤ 255) (back w n) r.0.1, r.1)))
 
     back-end_function : (up : Around) (w : List ℕ) (b : ℕ) → begins_name w ≡ true → FitsNext (end_function number up w b) → (length w ≤ 255) × AroundFits up
     back-end_function up w b n =
         back-if _ (is_keyword w) _ _ (λ _ h. absurd h)
         (λ _. back-if _ (nat_eq b 40) _ _ (λ _ h. (subst (λ v. length v ≤ 255) (back w n) h.0, h.3))
-          (λ _ h. let r = back-end_term up (app (number w) no_args) b h in (subst (λ v. length v ≤ 255) (back w n) r.0.0, r.1)))
+        (λ _ h. let r = back-end_term up (app (number w) no_args) b h in (subst (λ v. length v ≤ 255) (back w n) r.0.0, r.1)))
 
     back-end_word : (hs : List Hole) (w : List ℕ) (b : ℕ) (o : Option Word) → first_with (word_text Lkf) (w ++ b ∷ []) (words Lkf) ≡ o → begins_name w ≡ true → FitsNext (end_word number hs w b o) → (length hs < 10000) × (length w ≤ 255) × HolesFit hs
     back-end_word hs w b (Some x) e n h = let r = back-after_word hs x h in (r.0, begun-short Lkf w b x e, r.1)

@@ -122,13 +122,13 @@ module _ (number : List ℕ → ℕ) (logic : Logic) where
   Digits-index : (up : Around) → Digits (at_index up) (in_index up) (depth_around up)
   Digits-index up = record {
     one = λ d l within.
-      cond-true (is_digit (48 + d) && nat_lt (48 + d - 48) (depth_around up)) _ _
-      (and_from (is_digit (48 + d)) (nat_lt (48 + d - 48) (depth_around up)) (is_digit-digit d l) (ap (λ n. nat_lt n (depth_around up)) (digit_value d) ∙ tested d (depth_around up) within))
-      ∙ ap (λ n. on (in_index up n)) (digit_value d);
+        cond-true (is_digit (48 + d) && nat_lt (48 + d - 48) (depth_around up)) _ _
+        (and_from (is_digit (48 + d)) (nat_lt (48 + d - 48) (depth_around up)) (is_digit-digit d l) (ap (λ n. nat_lt n (depth_around up)) (digit_value d) ∙ tested d (depth_around up) within))
+        ∙ ap (λ n. on (in_index up n)) (digit_value d);
     more = λ k d low high l within.
-      cond-true (can_grow k (48 + d) && nat_lt (grown k (48 + d)) (depth_around up)) _ _
-      (and_from (can_grow k (48 + d)) (nat_lt (grown k (48 + d)) (depth_around up)) (can_grow-digit k d low high l) (ap (λ n. nat_lt n (depth_around up)) (grown-digit k d) ∙ tested (10 * k + d) (depth_around up) within))
-      ∙ ap (λ n. on (in_index up n)) (grown-digit k d);
+        cond-true (can_grow k (48 + d) && nat_lt (grown k (48 + d)) (depth_around up)) _ _
+        (and_from (can_grow k (48 + d)) (nat_lt (grown k (48 + d)) (depth_around up)) (can_grow-digit k d low high l) (ap (λ n. nat_lt n (depth_around up)) (grown-digit k d) ∙ tested (10 * k + d) (depth_around up) within))
+        ∙ ap (λ n. on (in_index up n)) (grown-digit k d);
   }
 
   eigen-ends : (up : Around) (k : ℕ) (c : Closer) → next number logic (in_eigen up k) (byte_of c) ≡ end_term up (eigen k) (byte_of c)

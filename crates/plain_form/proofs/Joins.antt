@@ -36,7 +36,7 @@ module _ (text : ℕ → List ℕ) (ys : List ℕ) where
     binary-append d o a b first second xs =
         ap (λ v. 40 ∷ v)
         (ap (plain_formula text logic d a) (ap (λ v. 32 ∷ v) (behind (operator_text logic o) _ ys (32 ∷ plain_formula text logic d b (41 ∷ xs)) (ap (λ v. 32 ∷ v) (second (41 ∷ xs)))))
-          ∙ first (operator_before (operator_text logic o) (plain_formula text logic d b (41 ∷ xs))))
+        ∙ first (operator_before (operator_text logic o) (plain_formula text logic d b (41 ∷ xs))))
 
     pub plain_formula-append : (d : ℕ) (f : Formula) (xs : List ℕ) → plain_formula text logic d f (xs ++ ys) ≡ plain_formula text logic d f xs ++ ys
     plain_formula-append d (truth p) xs = behind (truth_text p) (xs ++ ys) ys xs refl

@@ -1,14 +1,14 @@
 -- A byte of which no limit is told leaves a reading that keeps the limits.
-use Rattle.std.proofs.Common.{◌≡◌, ℕ, zero, suc, ◌+◌, ◌-◌, ◌<◌, ◌≤◌, Bool, true, false, if◌then◌else◌, ◌&&◌, List, [], ◌∷◌, ◌++◌, length, Option, Some, None, codes, refl, sym, ap, ◌∙◌, subst, arith, nat_eq, nat_lt, nat_le}
+use Rattle.std.proofs.Common.{◌≡◌, ℕ, suc, ◌-◌, ◌<◌, ◌≤◌, Bool, true, false, if◌then◌else◌, ◌&&◌, List, [], ◌∷◌, ◌++◌, length, Option, Some, None, refl, sym, subst, arith, nat_eq, nat_lt}
 use Rattle.fpc_base.specs.Tokens.{is_digit}
 use Rattle.fpc_terms.specs.Name.{is_small_letter, is_name_byte}
-use Rattle.fpc_terms.specs.Term.{Term, Args, eigen, bound, app, no_args, arg}
+use Rattle.fpc_terms.specs.Term.{Term, eigen, bound, app, no_args, arg}
 use Rattle.polarised_formulas.specs.declared.logic.Logic.{Logic}
 use Rattle.polarised_formulas.specs.declared.logic.Logic.TheVariants.{Lkf, Ljf}
-use Rattle.polarised_formulas.specs.Formula.{Formula, truth, falsity, atom, conj, disj, implies, for_all, exists}
-use Rattle.plain_form.specs.PlainReading.{Operator, Quantifier, every, some, quantified, operators, link_text, Word, true_unit, false_unit, binder, words, word_text, first_with, begins_some, Hole, first_of, second_of, under, Around, alone, in_term, in_atom, depth_around, Reading, at_formula, in_word, at_name, in_name, behind_formula, in_operator, at_term, in_function, at_eigen, in_eigen, at_index, in_index, behind_term, Next, on, whole_term, whole_formula, wrong, args_onto, end_formula, end_term, end_name, end_function, is_keyword, after_word, end_word, ljf_word, next_in_word, first_byte, next_operator, can_grow, grown, next, Use}
+use Rattle.polarised_formulas.specs.Formula.{Formula, atom}
+use Rattle.plain_form.specs.PlainReading.{Operator, quantified, operators, link_text, Word, true_unit, false_unit, binder, words, word_text, first_with, begins_some, Hole, first_of, second_of, under, Around, alone, in_term, in_atom, depth_around, Reading, at_formula, in_word, at_name, in_name, behind_formula, in_operator, at_term, in_function, at_eigen, in_eigen, at_index, in_index, behind_term, Next, on, whole_term, whole_formula, wrong, end_formula, end_term, end_name, end_function, is_keyword, after_word, end_word, ljf_word, next_in_word, first_byte, next_operator, can_grow, grown, next, Use}
 use Rattle.plain_form.specs.PlainForm.{begins_name, GivesBack}
-use Rattle.plain_form.specs.PlainLimits.{name_length, arguments_before, nesting, FitsTerm, FitArgs, FitsFormula}
+use Rattle.plain_form.specs.PlainLimits.{name_length, arguments_before, nesting, FitsTerm, FitsFormula}
 use Rattle.plain_form.proofs.Begun.{IsLive, IsLiveWord}
 use Rattle.plain_form.proofs.Fitting.{HolesFit, AroundFits, Fits, FitArgs-args_onto, FitsFormula-binary, FitsFormula-quantified, few-closed}
 

@@ -82,15 +82,15 @@ module _ (text : ℕ → List ℕ) where
     Spells-end_name logic hs positive w b h =
         Spells-if logic (is_keyword w) _ _ _ (λ _. tt)
         (λ _. Spells-if logic (nat_eq b 40) _ _ _
-          (λ e rest. ap₂ (λ v c. holes_before text logic hs (mark_text logic positive ++ (v ++ c ∷ rest))) (back w h) (same_number 40 b e))
-          (λ _. Spells-same logic (end_formula hs (atom positive (number w) no_args) b) _ _ (λ rest. ap (λ v. holes_before text logic hs (mark_text logic positive ++ (v ++ b ∷ rest))) (back w h)) (Spells-end_formula logic hs (atom positive (number w) no_args) b)))
+        (λ e rest. ap₂ (λ v c. holes_before text logic hs (mark_text logic positive ++ (v ++ c ∷ rest))) (back w h) (same_number 40 b e))
+        (λ _. Spells-same logic (end_formula hs (atom positive (number w) no_args) b) _ _ (λ rest. ap (λ v. holes_before text logic hs (mark_text logic positive ++ (v ++ b ∷ rest))) (back w h)) (Spells-end_formula logic hs (atom positive (number w) no_args) b)))
 
     Spells-end_function : (logic : Logic) (up : Around) (w : List ℕ) (b : ℕ) → begins_name w ≡ true → Spells text logic (end_function number up w b) (λ rest. around_before text logic up (w ++ b ∷ rest))
     Spells-end_function logic up w b h =
         Spells-if logic (is_keyword w) _ _ _ (λ _. tt)
         (λ _. Spells-if logic (nat_eq b 40) _ _ _
-          (λ e rest. ap₂ (λ v c. around_before text logic up (v ++ c ∷ rest)) (back w h) (same_number 40 b e))
-          (λ _. Spells-same logic (end_term up (app (number w) no_args) b) _ _ (λ rest. ap (λ v. around_before text logic up (v ++ b ∷ rest)) (back w h)) (Spells-end_term logic up (app (number w) no_args) b)))
+        (λ e rest. ap₂ (λ v c. around_before text logic up (v ++ c ∷ rest)) (back w h) (same_number 40 b e))
+        (λ _. Spells-same logic (end_term up (app (number w) no_args) b) _ _ (λ rest. ap (λ v. around_before text logic up (v ++ b ∷ rest)) (back w h)) (Spells-end_term logic up (app (number w) no_args) b)))
 
     Spells-end_word : (hs : List Hole) (w : List ℕ) (b : ℕ) → begins_name w ≡ true → (o : Option Word) → first_with (word_text Lkf) (w ++ b ∷ []) (words Lkf) ≡ o → Spells text Lkf (end_word number hs w b o) (λ rest. holes_before text Lkf hs (w ++ b ∷ rest))
     Spells-end_word hs w b h (Some x) e =
@@ -118,7 +118,7 @@ module _ (text : ℕ → List ℕ) where
     Spells-first_byte Ljf hs b =
         Spells-if Ljf (nat_eq b 43) _ _ _ (λ e rest. ap (λ c. holes_before text Ljf hs (c ∷ rest)) (same_number 43 b e))
         (λ _. Spells-if Ljf (nat_eq b 45) _ _ _ (λ e rest. ap (λ c. holes_before text Ljf hs (c ∷ rest)) (same_number 45 b e))
-          (λ _. Spells-if Ljf (begins_some (word_text Ljf) (b ∷ []) (words Ljf)) _ _ _ (λ _ rest. refl) (λ _. tt)))
+        (λ _. Spells-if Ljf (begins_some (word_text Ljf) (b ∷ []) (words Ljf)) _ _ _ (λ _ rest. refl) (λ _. tt)))
 
     operator_read : (logic : Logic) (o : Operator) (w : List ℕ) (b : ℕ) (rest : List ℕ) → link_text logic o ≡ w ++ b ∷ [] → operator_text logic o ++ 32 ∷ rest ≡ w ++ b ∷ rest
     operator_read logic o w b rest e = sym (append_assoc (operator_text logic o) (32 ∷ []) rest) ∙ ap (λ v. v ++ rest) e ∙ append_assoc w (b ∷ []) rest
@@ -149,8 +149,8 @@ module _ (text : ℕ → List ℕ) where
     Spells-next logic wanted (at_term up) b live =
         Spells-if logic (nat_eq b 36) _ _ _ (λ e rest. ap (λ c. around_before text logic up (c ∷ rest)) (same_number 36 b e))
         (λ _. Spells-if logic (nat_eq b 35) _ _ _
-          (λ e. Spells-if logic (nat_lt 0 (depth_around up)) _ _ _ (λ _ rest. ap (λ c. around_before text logic up (c ∷ rest)) (same_number 35 b e)) (λ _. tt))
-          (λ _. Spells-if logic (is_small_letter b) _ _ _ (λ _ rest. refl) (λ _. tt)))
+        (λ e. Spells-if logic (nat_lt 0 (depth_around up)) _ _ _ (λ _ rest. ap (λ c. around_before text logic up (c ∷ rest)) (same_number 35 b e)) (λ _. tt))
+        (λ _. Spells-if logic (is_small_letter b) _ _ _ (λ _ rest. refl) (λ _. tt)))
     Spells-next logic wanted (in_function up w) b live =
         Spells-if logic (is_name_byte b) _ _ _ (λ _ rest. ap (around_before text logic up) (append_assoc w (b ∷ []) rest)) (λ _. Spells-end_function logic up w b live.0)
     Spells-next logic wanted (at_eigen up) b live = Spells-if logic (is_digit b) _ _ _ (λ h rest. ap (λ x. around_before text logic up (36 ∷ x)) (decimal-one b rest h)) (λ _. tt)

@@ -18,3 +18,4 @@ pub mod Keeping
 pub mod Outcomes
 pub mod TableOutcomes
 pub mod Refusals
+pub mod Standing

@@ -109,7 +109,7 @@ module _ (number : List ℕ → ℕ) where
   ends-next_operator logic hs a w b None e =
       ends-if b (begins_some (link_text logic) (w ++ b ∷ []) (operators logic)) _ _
       (λ h. let c = begins_some-continues (link_text logic) (w ++ b ∷ []) (HasOperator logic) (operators logic) (all_operators logic) h in
-        inner_byte w b c.more (ap (list_all is_in_line) (sym (c.same ∙ append_assoc w (b ∷ []) c.more)) ∙ link-in_line logic c.word)) (λ _. tt)
+      inner_byte w b c.more (ap (list_all is_in_line) (sym (c.same ∙ append_assoc w (b ∷ []) c.more)) ∙ link-in_line logic c.word)) (λ _. tt)
 
 pub line_ends : LineEnds
 line_ends number logic (at_formula hs) b = ends-if b (nat_eq b 40) _ _ (other_byte 40 b refl) (λ _. ends-first_byte number logic hs b)

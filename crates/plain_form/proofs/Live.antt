@@ -130,7 +130,7 @@ module _ (text : ℕ → List ℕ) (number : List ℕ → ℕ) where
       IsLiveNext-next logic (at_term up) b live =
           live-if logic (nat_eq b 36) _ _ (λ _. live)
           (λ _. live-if logic (nat_eq b 35) _ _ (λ _. live-if logic (nat_lt 0 (depth_around up)) _ _ (λ h. (tested_lt 0 (depth_around up) h, live)) (λ _. tt))
-            (λ _. live-if logic (is_small_letter b) _ _ (λ h. (begins_name-one b h, live)) (λ _. tt)))
+          (λ _. live-if logic (is_small_letter b) _ _ (λ h. (begins_name-one b h, live)) (λ _. tt)))
       IsLiveNext-next logic (in_function up w) b live =
           live-if logic (is_name_byte b) _ _ (λ h. (begins_name-snoc w b live.0 h, live.1)) (λ _. live-end_function logic up w b live.0 live.1)
       IsLiveNext-next logic (at_eigen up) b live = live-if logic (is_digit b) _ _ (λ h. (digit-small b h, live)) (λ _. tt)

@@ -52,6 +52,7 @@ found least place (t ∷ ts) w = by (bytes_eq t w) refl (found least (suc place)
     later : number_from least place (t ∷ ts) w ≡ number_from least (suc place) ts w → Found least (suc place) ts w → Found least place (t ∷ ts) w
     later e (here i at same below) = let s : suc place + i ≡ place + suc i = omega arith in here (suc i) (e ∙ at ∙ s) same (omega arith)
     later e (outside at) = outside (e ∙ at)
+
     by : (c : Bool) → bytes_eq t w ≡ c → Found least (suc place) ts w → Found least place (t ∷ ts) w
     by true h rec = let s : place ≡ place + 0 = omega arith in here 0 (cond-true (bytes_eq t w) _ _ h ∙ s) ((bytes_eq-Decides t w).0 h) (omega arith)
     by false h rec = later (cond-false (bytes_eq t w) _ _ h) rec

@@ -1,17 +1,17 @@
 -- The outcome of a whole text.
-use Rattle.std.proofs.Common.{◌≡◌, ℕ, zero, suc, ◌+◌, ◌<◌, ◌≤◌, Bool, true, false, ◌↔◌, List, [], ◌∷◌, ◌++◌, length, Option, Some, None, refl, sym, ap, ◌∙◌, subst, arith}
+use Rattle.std.proofs.Common.{◌≡◌, ℕ, suc, List, [], ◌∷◌, ◌++◌, Option, Some, None, refl, sym, ap, ◌∙◌, subst}
 use Rattle.fpc_base.specs.declared.refusal.Code.{Code}
 use Rattle.fpc_base.specs.declared.refusal.Code.TheVariants.{Unexpected}
 use Rattle.fpc_terms.specs.Term.{Term}
 use Rattle.polarised_formulas.specs.declared.logic.Logic.{Logic}
 use Rattle.polarised_formulas.specs.Formula.{Formula}
-use Rattle.plain_form.specs.PlainReading.{Reading, Next, on, whole_term, whole_formula, wrong, next, go, run, Use, of_term, of_formula, start}
+use Rattle.plain_form.specs.PlainReading.{Reading, Next, on, whole_term, whole_formula, wrong, next, go, run, Use}
 use Rattle.plain_form.specs.PlainForm.{GivesBack}
-use Rattle.plain_form.specs.PlainLimits.{nesting, limit_of, fault_inside, Outcome, a_term, a_formula, refused, outcome_at_end, unless_refused, outcome, FitsTerm, FitsFormula}
+use Rattle.plain_form.specs.PlainLimits.{nesting, limit_of, fault_inside, Outcome, a_term, a_formula, refused, outcome_at_end, unless_refused, outcome}
 use Rattle.plain_form.proofs.Begun.{IsLive, IsLiveNext}
 use Rattle.plain_form.proofs.Live.{IsLiveNext-next}
 use Rattle.plain_form.proofs.Begins.{stays_wrong}
-use Rattle.plain_form.proofs.Fitting.{Fits, FitsNext, Within, limit-within, within-limit, back-next, fits-within}
+use Rattle.plain_form.proofs.Fitting.{Fits, FitsNext, limit-within, within-limit, back-next, fits-within}
 use Rattle.plain_form.proofs.Keeping.{Ahead, ahead-next}
 
 -- what is whole gives the outcome
@@ -49,6 +49,7 @@ module _ (text : ℕ → List ℕ) (number : List ℕ → ℕ) (back : GivesBack
     where
       same : next number logic q 10 ≡ w
       same = gives.only place (next number logic q 10) e
+
       by : (m : Next) → next number logic q 10 ≡ m → Ahead text (nesting q) m → Reaches (on q) []
       by (on r) h a = absurd (gives.not_refused Unexpected place (ap (outcome_at_end place) (sym h) ∙ e))
       by (whole_term t) h a = (same, subst (FitsNext text) (sym h ∙ same) a)

@@ -1,12 +1,12 @@
 -- What a refusal of a whole text says.
-use Rattle.std.proofs.Common.{◌≡◌, ℕ, zero, suc, ◌+◌, ◌<◌, Bool, true, false, if◌then◌else◌, ◌↔◌, List, [], ◌∷◌, ◌++◌, length, Option, Some, None, refl, sym, ap, ◌∙◌, subst, arith, nat_lt, append_assoc, length-append}
+use Rattle.std.proofs.Common.{◌≡◌, ℕ, suc, Bool, true, false, if◌then◌else◌, List, [], ◌∷◌, ◌++◌, length, Option, Some, None, refl, sym, ap, ◌∙◌, subst, arith, nat_lt, append_assoc, length-append}
 use Rattle.fpc_base.specs.declared.refusal.Code.{Code}
 use Rattle.fpc_base.specs.declared.refusal.Code.TheVariants.{Unexpected, TooDeep, LongName, ManyArguments}
 use Rattle.polarised_formulas.specs.declared.logic.Logic.{Logic}
 use Rattle.plain_form.specs.PlainReading.{Reading, Next, on, whole_term, whole_formula, wrong, next, run, Use, of_term, of_formula, start}
 use Rattle.plain_form.specs.PlainForm.{GivesBack, IsLine}
 use Rattle.plain_form.specs.PlainTexts.{IsText, BeginsText, IsOn}
-use Rattle.plain_form.specs.PlainLimits.{name_length, arguments_before, nesting, limit_of, fault_inside, Outcome, refused, outcome_at_end, unless_refused, outcome, IsTold, IsRefused, RefusalIsTold}
+use Rattle.plain_form.specs.PlainLimits.{name_length, arguments_before, nesting, limit_of, fault_inside, refused, outcome_at_end, unless_refused, outcome, IsRefused, RefusalIsTold}
 use Rattle.plain_form.proofs.Forward.{run-append}
 use Rattle.plain_form.proofs.Begins.{term_read, formula_read}
 use Rattle.plain_form.proofs.Texts.{line_from_text, on_begins}

@@ -131,6 +131,7 @@ line_by_other text text' number number' back logic wanted bytes = by wanted
   where
     each : (limit g : ℕ) → g < limit → IsPlainName text number g → IsPlainName text' number' (number' (text g)) × (text' (number' (text g)) ≡ text g)
     each limit g low p = let e = back (text g) p.0 in ((ap begins_name e ∙ p.0, ap is_keyword e ∙ p.1, ap number' e), e)
+
     by : (wanted : Use) → IsLine text number logic wanted bytes → IsLine text' number' logic wanted bytes
     by of_term h = let m = move_term text text' number number' (λ g. number' (text g)) (term_bound h.0) (each (term_bound h.0)) h.0 0 (omega arith) h.1 in (rename_term (λ g. number' (text g)) h.0, m.0, m.1 (10 ∷ []) ∙ h.2)
     by of_formula h = let m = move_formula text text' number number' (λ g. number' (text g)) (name_bound h.0) (each (name_bound h.0)) logic h.0 0 (omega arith) h.1 in (rename (λ g. number' (text g)) h.0, m.0, m.1 (10 ∷ []) ∙ h.2)

@@ -1,19 +1,19 @@
 -- The outcome of a whole text with the names of a table.
-use Rattle.std.proofs.Common.{◌≡◌, ℕ, zero, suc, ◌+◌, ◌<◌, ◌≤◌, Bool, ◌↔◌, List, [], ◌∷◌, ◌++◌, length, refl, sym, ap, ◌∙◌, subst, arith}
+use Rattle.std.proofs.Common.{◌≡◌, ℕ, suc, ◌+◌, ◌<◌, ◌≤◌, List, length, refl, sym, ap, ◌∙◌, subst, arith}
 use Rattle.fpc_terms.specs.Name.{Agrees, AreDifferent}
 use Rattle.fpc_terms.specs.Term.{Term, Args, eigen, bound, variable, app, no_args, arg}
 use Rattle.fpc_terms.specs.Text.{name_in, term_text}
 use Rattle.polarised_formulas.specs.declared.logic.Logic.{Logic}
 use Rattle.polarised_formulas.specs.Formula.{Formula, truth, falsity, atom, conj, disj, implies, for_all, exists}
 use Rattle.polarised_formulas.specs.Text.{plain_text}
-use Rattle.plain_form.specs.PlainReading.{whole_term, whole_formula, Use, of_term, of_formula, start}
+use Rattle.plain_form.specs.PlainReading.{whole_term, whole_formula, of_term, of_formula, start}
 use Rattle.plain_form.specs.PlainForm.{GivesBack, IsPlainName, IsPlainTerm, ArePlainTerms, IsPlainFormula}
 use Rattle.plain_form.specs.Numbering.{number_in, text_in}
 use Rattle.plain_form.specs.PlainTexts.{IsPlainTermIn, IsPlainIn}
-use Rattle.plain_form.specs.PlainLimits.{Outcome, a_term, a_formula, FitsTerm, FitArgs, FitsFormula, IsNumbering, HasOutcome, TermOutcome, FormulaOutcome}
+use Rattle.plain_form.specs.PlainLimits.{a_term, a_formula, FitsTerm, FitArgs, FitsFormula, IsNumbering, HasOutcome, TermOutcome, FormulaOutcome}
 use Rattle.plain_form.proofs.Renaming.{term_bound, args_bound, name_bound}
 use Rattle.plain_form.proofs.Numberings.{GivesBack-number_in, Agrees-number_in}
-use Rattle.plain_form.proofs.Texts.{table_name, agreeing, formula_from, formula_back, term_from, term_back}
+use Rattle.plain_form.proofs.Texts.{agreeing, formula_from, formula_back, term_from, term_back}
 use Rattle.plain_form.proofs.Outcomes.{gives_term, gives_formula, forth, back'}
 
 -- what fits with texts fits with others that are the same for its names

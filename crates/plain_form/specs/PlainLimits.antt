@@ -1,5 +1,5 @@
 -- The limits of plain texts, and what a reader of a whole text tells of its bytes.
-use Rattle.std.specs.Prelude.{◌≡◌, ℕ, suc, ◌<◌, ◌≤◌, ◌↔◌, if◌then◌else◌, nat_lt, nat_le, List, [], ◌∷◌, ◌++◌, length, Option, Some, None}
+use Rattle.std.specs.Prelude.{◌≡◌, ℕ, suc, ◌<◌, ◌≤◌, ◌↔◌, if◌then◌else◌, nat_lt, List, [], ◌∷◌, ◌++◌, length, drop, Option, Some, None}
 use Rattle.fpc_base.specs.declared.refusal.Code.{Code}
 use Rattle.fpc_base.specs.declared.refusal.Code.TheVariants.{Unexpected, TooDeep, LongName, ManyArguments}
 use Rattle.fpc_terms.specs.Name.{Agrees, AreDifferent}
@@ -166,3 +166,11 @@ pub record IsRefused (text : ℕ → List ℕ) (number : List ℕ → ℕ) (logi
 abbrev pub RefusalIsTold : Type 0
 RefusalIsTold = (text : ℕ → List ℕ) (number : List ℕ → ℕ) → GivesBack text number → (logic : Logic) (wanted : Use) (bytes : List ℕ) (code : Code) (place : ℕ)
     → outcome number logic (start wanted) 0 bytes ≡ refused code place → IsRefused text number logic wanted bytes code place
+
+-- A reader of a whole text stands at a place: by each numbering that agrees with the table the outcome is that of the bytes from there on.
+abbrev pub StandsAt : List (List ℕ) → Logic → Use → List ℕ → ℕ → Reading → Type 0
+StandsAt names logic wanted bytes place q = (number : List ℕ → ℕ) → Agrees number names → outcome number logic (start wanted) 0 bytes ≡ outcome number logic (on q) place (drop place bytes)
+
+-- by each numbering that agrees with the table the outcome of the bytes is that one
+abbrev pub Comes : List (List ℕ) → Logic → Use → List ℕ → Outcome → Type 0
+Comes names logic wanted bytes o = (number : List ℕ → ℕ) → Agrees number names → outcome number logic (start wanted) 0 bytes ≡ o

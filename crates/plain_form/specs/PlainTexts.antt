@@ -1,14 +1,12 @@
 -- Plain texts without the end of their line, with the names of a table, and what a reader tells of bytes.
-use Rattle.std.specs.Prelude.{◌≡◌, ℕ, suc, ◌≤◌, ◌↔◌, if◌then◌else◌, nat_eq, nat_lt, nat_le, false, List, [], ◌∷◌, ◌++◌, length, Option, Some, None}
-use Rattle.fpc_base.specs.declared.refusal.Code.{Code}
-use Rattle.fpc_base.specs.declared.refusal.Code.TheVariants.{Unexpected, TooDeep, LongName, ManyArguments}
+use Rattle.std.specs.Prelude.{◌≡◌, ℕ, ◌≤◌, ◌↔◌, nat_eq, false, List, [], ◌∷◌, ◌++◌, length}
 use Rattle.fpc_terms.specs.Name.{Agrees, AreDifferent}
 use Rattle.fpc_terms.specs.Term.{Term}
 use Rattle.fpc_terms.specs.Text.{name_in, term_text}
 use Rattle.polarised_formulas.specs.declared.logic.Logic.{Logic}
 use Rattle.polarised_formulas.specs.Formula.{Formula}
 use Rattle.polarised_formulas.specs.Text.{plain_text}
-use Rattle.plain_form.specs.PlainReading.{Around, alone, in_term, in_atom, Reading, at_formula, in_word, in_name, in_function, at_term, Next, on, whole_term, whole_formula, wrong, next, run, Use, of_term, of_formula, start}
+use Rattle.plain_form.specs.PlainReading.{Reading, Next, on, whole_term, whole_formula, wrong, next, run, Use, of_term, of_formula, start}
 use Rattle.plain_form.specs.PlainForm.{IsPlainTerm, IsPlainFormula, plain_term, plain_formula, IsLine, GivesBack}
 use Rattle.plain_form.specs.Numbering.{number_in, text_in}
 

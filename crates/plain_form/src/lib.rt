@@ -1,6 +1,8 @@
 //! The plain form of terms and formulas as bytes: the laws that tie the reading byte by byte to the texts.
 #![tactic(auto)]
+
 ghost use Rattle.plain_form.specs.PlainForm.{FormulaIsOne, FormulaIsWhole, GoingBegins, PlainFormulaIsProper, PlainTermIsProper, TermIsOne, TermIsWhole};
+ghost use Rattle.plain_form.specs.PlainLimits.{FormulaOutcome, RefusalIsTold, TermOutcome};
 ghost use Rattle.plain_form.specs.PlainTexts.{FormulaIsRead, LineEnds, LinesAreShared, OnBegins, TableHasNumbering, TermIsRead};
 
 /// Laws of lines: the reading goes on exactly where the bytes begin a line, and what is whole is what the line holds. A line ends with the byte 10, which stands
@@ -24,6 +26,15 @@ pub fn laws_of_texts()
     ensures term { TermIsRead }
     ensures formula { FormulaIsRead }
     ensures numbering { TableHasNumbering }
+{}
+
+/// Laws of outcomes: with a table of different names a whole text is read exactly where it is the text of a term or formula that keeps the limits, and a refusal
+/// is told at the first byte that goes on to begin no text or goes past a limit, or at the end of bytes that are no text.
+#[tactic(auto, using(crate::proofs::Laws::laws))]
+pub fn laws_of_outcomes()
+    ensures term { TermOutcome }
+    ensures formula { FormulaOutcome }
+    ensures refusal { RefusalIsTold }
 {}
 
 /// Laws of what is read: it has no variable and no free bound index, and a formula is of its logic.
