@@ -19,3 +19,4 @@ pub mod Outcomes
 pub mod TableOutcomes
 pub mod Refusals
 pub mod Standing
+pub mod Growth

@@ -19,7 +19,7 @@ use Rattle.plain_form.proofs.Outcomes.{gives_term, gives_formula, forth, back'}
 -- what fits with texts fits with others that are the same for its names
 module _ (text text' own : ℕ → List ℕ) (number : List ℕ → ℕ) (limit : ℕ) (each : (g : ℕ) → g < limit → IsPlainName own number g → text g ≡ text' g) where
   mutual
-    fits-term : (t : Term) (d : ℕ) → term_bound t ≤ limit → IsPlainTerm own number d t → FitsTerm text t → FitsTerm text' t
+    pub fits-term : (t : Term) (d : ℕ) → term_bound t ≤ limit → IsPlainTerm own number d t → FitsTerm text t → FitsTerm text' t
     fits-term (eigen k) d l p h = tt
     fits-term (bound k) d l p h = tt
     fits-term (variable v) d l p h = tt
@@ -29,7 +29,7 @@ module _ (text text' own : ℕ → List ℕ) (number : List ℕ → ℕ) (limit 
     fits-args no_args d l p h = tt
     fits-args (arg t ts) d l p h = (fits-term t d (omega arith) p.0 h.0, fits-args ts d (omega arith) p.1 h.1)
 
-  fits-formula : (logic : Logic) (f : Formula) (d n : ℕ) → name_bound f ≤ limit → IsPlainFormula own number logic d f → FitsFormula text n f → FitsFormula text' n f
+  pub fits-formula : (logic : Logic) (f : Formula) (d n : ℕ) → name_bound f ≤ limit → IsPlainFormula own number logic d f → FitsFormula text n f → FitsFormula text' n f
   fits-formula logic (truth p) d n l k h = h
   fits-formula logic (falsity p) d n l k h = h
   fits-formula logic (atom positive f ts) d n l k h = let low : f < limit = omega arith in (h.0, subst (λ v. length v ≤ 255) (each f low k.0) h.1, h.2, fits-args ts d (omega arith) k.1 h.3)

@@ -78,7 +78,7 @@ on_begins text number back logic wanted bytes = (forth, on_from_text text number
         text_from_begun text number logic wanted bytes going b.0 b.1
 
 -- a name of a table stands in it
-got : (names : List (List ℕ)) (g : ℕ) → begins_name (name_in names g) ≡ true → slice_get names g ≡ Some (name_in names g)
+pub got : (names : List (List ℕ)) (g : ℕ) → begins_name (name_in names g) ≡ true → slice_get names g ≡ Some (name_in names g)
 got [] g h = cc
 got (t ∷ ts) zero h = refl
 got (t ∷ ts) (suc g) h = got ts g h

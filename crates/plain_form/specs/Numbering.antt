@@ -3,11 +3,12 @@ use Rattle.std.specs.Prelude.{ℕ, zero, suc, ◌+◌, ◌-◌, ◌*◌, ◌/◌
 use Rattle.std.specs.Str.{bytes_eq}
 use Rattle.fpc_terms.specs.Text.{name_in}
 
--- a number made of bytes, and the bytes again, at most so many of them
+-- a number made of bytes
 abbrev pub code : List ℕ → ℕ
 code [] = 0
 code (b ∷ bs) = suc (b + 256 * code bs)
 
+-- the bytes of such a number, at most so many of them
 abbrev pub decode : ℕ → ℕ → List ℕ
 decode zero n = []
 decode (suc most) zero = []

@@ -29,6 +29,7 @@ abbrev mutual
   IsPlainTerm text number d (variable v) = ⊥
   IsPlainTerm text number d (app f ts) = IsPlainName text number f × ArePlainTerms text number d ts
 
+  -- so are the arguments
   pub ArePlainTerms : (ℕ → List ℕ) → (List ℕ → ℕ) → ℕ → Args → Type 0
   ArePlainTerms text number d no_args = Unit {0}
   ArePlainTerms text number d (arg t ts) = IsPlainTerm text number d t × ArePlainTerms text number d ts

@@ -2,7 +2,7 @@
 use Rattle.std.specs.Prelude.{◌≡◌, ℕ, suc, ◌<◌, ◌≤◌, ◌↔◌, if◌then◌else◌, nat_lt, List, [], ◌∷◌, ◌++◌, length, drop, Option, Some, None}
 use Rattle.fpc_base.specs.declared.refusal.Code.{Code}
 use Rattle.fpc_base.specs.declared.refusal.Code.TheVariants.{Unexpected, TooDeep, LongName, ManyArguments}
-use Rattle.fpc_terms.specs.Name.{Agrees, AreDifferent}
+use Rattle.fpc_terms.specs.Name.{Agrees, AreDifferent, Grows}
 use Rattle.fpc_terms.specs.Term.{Term, Args, eigen, bound, variable, app, no_args, arg, count}
 use Rattle.fpc_terms.specs.Text.{name_in, term_text}
 use Rattle.polarised_formulas.specs.declared.logic.Logic.{Logic}
@@ -92,6 +92,7 @@ outcome_at_end place (whole_formula f) = a_formula f
 outcome_at_end place (on q) = refused Unexpected place
 outcome_at_end place wrong = refused Unexpected place
 
+-- a refusal at a place, or what comes later
 abbrev pub unless_refused : Option Code → ℕ → Outcome → Outcome
 unless_refused (Some code) place later = refused code place
 unless_refused None place later = later
@@ -112,6 +113,7 @@ abbrev mutual
   FitsTerm text (variable v) = Unit {0}
   FitsTerm text (app f ts) = (length (text f) ≤ 255) × (count ts ≤ 255) × FitArgs text ts
 
+  -- so do the names in the arguments
   pub FitArgs : (ℕ → List ℕ) → Args → Type 0
   FitArgs text no_args = Unit {0}
   FitArgs text (arg t ts) = FitsTerm text t × FitArgs text ts
@@ -174,3 +176,13 @@ StandsAt names logic wanted bytes place q = (number : List ℕ → ℕ) → Agre
 -- by each numbering that agrees with the table the outcome of the bytes is that one
 abbrev pub Comes : List (List ℕ) → Logic → Use → List ℕ → Outcome → Type 0
 Comes names logic wanted bytes o = (number : List ℕ → ℕ) → Agrees number names → outcome number logic (start wanted) 0 bytes ≡ o
+
+-- what is plain with the names of a table stays so, with its text and within the limits, as the table grows
+abbrev pub PlainGrows : Type 0
+PlainGrows = (old new : List (List ℕ)) → Grows old new → AreDifferent new → (logic : Logic) (f : Formula) → IsPlainIn old logic f
+    → IsPlainIn new logic f × (plain_text new logic f ≡ plain_text old logic f) × (FitsFormula (name_in old) 0 f → FitsFormula (name_in new) 0 f)
+
+-- the same of terms
+abbrev pub PlainTermGrows : Type 0
+PlainTermGrows = (old new : List (List ℕ)) → Grows old new → AreDifferent new → (t : Term) → IsPlainTermIn old t
+    → IsPlainTermIn new t × (term_text new t ≡ term_text old t) × (FitsTerm (name_in old) t → FitsTerm (name_in new) t)

@@ -18,24 +18,29 @@ pub data Operator : Type 0 where
   disjunction : (polarity : Polarity) → Operator
   implication : Operator
 
+-- a quantifier
 pub data Quantifier : Type 0 where
   every : Quantifier
   some : Quantifier
 
+-- the formula with two parts
 abbrev pub binary : Operator → Formula → Formula → Formula
 binary (conjunction p) a b = conj p a b
 binary (disjunction p) a b = disj p a b
 binary implication a b = implies a b
 
+-- the formula under a quantifier
 abbrev pub quantified : Quantifier → Formula → Formula
 quantified every a = for_all a
 quantified some a = exists a
 
+-- the bytes of a connective, without the blanks around it
 abbrev pub operator_text : Logic → Operator → List ℕ
 operator_text logic (conjunction p) = conj_text p
 operator_text logic (disjunction p) = disj_text logic p
 operator_text logic implication = codes "=>"
 
+-- the bytes of a quantifier, with the blank behind it
 abbrev pub quantifier_text : Quantifier → List ℕ
 quantifier_text every = codes "all "
 quantifier_text some = codes "some "
@@ -55,6 +60,7 @@ pub data Word : Type 0 where
   false_unit : (polarity : Polarity) → Word
   binder : (quantifier : Quantifier) → Word
 
+-- the bytes of a word
 abbrev pub word_text : Logic → Word → List ℕ
 word_text logic (true_unit p) = truth_text p
 word_text logic (false_unit p) = falsity_text logic p
@@ -148,6 +154,7 @@ end_term (in_atom hs positive f ts) t b =
     if nat_eq b 44 then on (at_term (in_atom hs positive f (t ∷ ts)))
     else if nat_eq b 41 then on (behind_formula hs (atom positive f (args_onto ts (arg t no_args)))) else wrong
 
+-- the bytes are a keyword, which is no name
 abbrev pub is_keyword : List ℕ → Bool
 is_keyword w = is_one_of keywords w
 
@@ -165,6 +172,7 @@ end_function number up w b =
     else if nat_eq b 40 then on (at_term (in_term (number w) [] up))
     else end_term up (app (number w) no_args) b
 
+-- what is read with the last byte of a word
 abbrev pub after_word : List Hole → Word → Next
 after_word hs (true_unit p) = on (behind_formula hs (truth p))
 after_word hs (false_unit p) = on (behind_formula hs (falsity p))
@@ -180,6 +188,7 @@ abbrev pub ljf_word : List Hole → List ℕ → Option Word → Next
 ljf_word hs w (Some x) = after_word hs x
 ljf_word hs w None = if begins_some (word_text Ljf) w (words Ljf) then on (in_word hs w) else wrong
 
+-- a byte behind a word begun
 abbrev pub next_in_word : (List ℕ → ℕ) → Logic → List Hole → List ℕ → ℕ → Next
 next_in_word number Lkf hs w b =
     if is_name_byte b then on (in_word hs (w ++ b ∷ [])) else end_word number hs w b (first_with (word_text Lkf) (w ++ b ∷ []) (words Lkf))
@@ -230,6 +239,7 @@ go number logic (whole_term t) b = wrong
 go number logic (whole_formula f) b = wrong
 go number logic wrong b = wrong
 
+-- bytes behind what was read
 abbrev pub run : (List ℕ → ℕ) → Logic → Next → List ℕ → Next
 run number logic n [] = n
 run number logic n (b ∷ bs) = run number logic (go number logic n b) bs
@@ -239,6 +249,7 @@ pub data Use : Type 0 where
   of_term : Use
   of_formula : Use
 
+-- nothing is read
 abbrev pub start : Use → Next
 start of_term = on (at_term alone)
 start of_formula = on (at_formula [])

@@ -2,7 +2,7 @@
 #![tactic(auto)]
 
 ghost use Rattle.plain_form.specs.PlainForm.{FormulaIsOne, FormulaIsWhole, GoingBegins, PlainFormulaIsProper, PlainTermIsProper, TermIsOne, TermIsWhole};
-ghost use Rattle.plain_form.specs.PlainLimits.{FormulaOutcome, RefusalIsTold, TermOutcome};
+ghost use Rattle.plain_form.specs.PlainLimits.{FormulaOutcome, PlainGrows, PlainTermGrows, RefusalIsTold, TermOutcome};
 ghost use Rattle.plain_form.specs.PlainTexts.{FormulaIsRead, LineEnds, LinesAreShared, OnBegins, TableHasNumbering, TermIsRead};
 
 /// Laws of lines: the reading goes on exactly where the bytes begin a line, and what is whole is what the line holds. A line ends with the byte 10, which stands
@@ -37,9 +37,11 @@ pub fn laws_of_outcomes()
     ensures refusal { RefusalIsTold }
 {}
 
-/// Laws of what is read: it has no variable and no free bound index, and a formula is of its logic.
+/// Laws of what is read: it has no variable and no free bound index, a formula is of its logic, and both keep their texts as the table of names grows.
 #[tactic(auto, using(crate::proofs::Laws::laws))]
 pub fn laws_of_what_is_read()
     ensures term { PlainTermIsProper }
     ensures formula { PlainFormulaIsProper }
+    ensures grown_term { PlainTermGrows }
+    ensures grown_formula { PlainGrows }
 {}
