@@ -20,3 +20,4 @@ pub mod TableOutcomes
 pub mod Refusals
 pub mod Standing
 pub mod Growth
+pub mod Steps
