@@ -3,6 +3,7 @@
 
 ghost use Rattle.plain_form.specs.PlainForm.{FormulaIsOne, FormulaIsWhole, GoingBegins, PlainFormulaIsProper, PlainTermIsProper, TermIsOne, TermIsWhole};
 ghost use Rattle.plain_form.specs.PlainLimits.{FormulaOutcome, PlainGrows, PlainTermGrows, RefusalIsTold, TermOutcome};
+ghost use Rattle.plain_form.specs.PlainPrinting.{FormulaIsPlain, FormulaIsReadBack, TermIsPlain, TermIsReadBack};
 ghost use Rattle.plain_form.specs.PlainTexts.{FormulaIsRead, LineEnds, LinesAreShared, OnBegins, TableHasNumbering, TermIsRead};
 
 /// Laws of lines: the reading goes on exactly where the bytes begin a line, and what is whole is what the line holds. A line ends with the byte 10, which stands
@@ -44,4 +45,14 @@ pub fn laws_of_what_is_read()
     ensures formula { PlainFormulaIsProper }
     ensures grown_term { PlainTermGrows }
     ensures grown_formula { PlainGrows }
+{}
+
+/// Laws of what is printed: a term or formula is read back from its text exactly where it is of the logic, has no variable and no free bound index, small
+/// eigenvariables, only names of the table, and keeps the limits.
+#[tactic(auto, using(crate::proofs::Laws::laws))]
+pub fn laws_of_what_is_printed()
+    ensures plain_term { TermIsPlain }
+    ensures plain_formula { FormulaIsPlain }
+    ensures term { TermIsReadBack }
+    ensures formula { FormulaIsReadBack }
 {}
