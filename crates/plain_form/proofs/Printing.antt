@@ -1,5 +1,5 @@
 -- What is proper, of the logic, named by a table and within the limits is plain, and so is read back from its text.
-use Rattle.std.proofs.Common.{◌≡◌, ℕ, zero, suc, ◌<◌, ◌≤◌, true, List, [], ◌∷◌, length, Some, slice_get, refl, arith}
+use Rattle.std.proofs.Common.{◌≡◌, ℕ, zero, suc, ◌<◌, ◌≤◌, true, List, [], ◌∷◌, length, refl, arith}
 use Rattle.fpc_terms.specs.Name.{AreDifferent}
 use Rattle.fpc_terms.specs.Term.{Term, Args, eigen, bound, variable, app, no_args, arg, Each, EachArg, Never, IsProperTerm}
 use Rattle.fpc_terms.specs.Text.{name_in, term_text}

@@ -34,7 +34,7 @@ module _ (text : ℕ → List ℕ) (number : List ℕ → ℕ) (logic : Logic) w
   line_from_text of_term bytes h = (h.0, h.1, plain_term-append text (10 ∷ []) h.0 [] ∙ ap (λ v. v ++ 10 ∷ []) h.2)
   line_from_text of_formula bytes h = (h.0, h.1, plain_formula-append text (10 ∷ []) logic 0 h.0 [] ∙ ap (λ v. v ++ 10 ∷ []) h.2)
 
-  text_from_line : (wanted : Use) (bytes : List ℕ) (b : ℕ) → IsLine text number logic wanted (bytes ++ b ∷ []) → IsText text number logic wanted bytes
+  pub text_from_line : (wanted : Use) (bytes : List ℕ) (b : ℕ) → IsLine text number logic wanted (bytes ++ b ∷ []) → IsText text number logic wanted bytes
   text_from_line of_term bytes b h = (h.0, h.1, (same_from_push (plain_term text h.0 []) bytes 10 b (sym (plain_term-append text (10 ∷ []) h.0 []) ∙ h.2)).0)
   text_from_line of_formula bytes b h = (h.0, h.1, (same_from_push (plain_formula text logic 0 h.0 []) bytes 10 b (sym (plain_formula-append text (10 ∷ []) logic 0 h.0 []) ∙ h.2)).0)
 

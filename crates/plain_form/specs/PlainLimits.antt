@@ -153,7 +153,16 @@ IsTold text number logic wanted q front code [] = (code ≡ Unexpected) × ¬ (I
 IsTold text number logic wanted q front code (b ∷ more) =
     (fault_inside q (next number logic q b) ≡ Some code) × (code ≡ Unexpected → ¬ (BeginsText text number logic wanted (front ++ b ∷ []))) × (¬ (code ≡ Unexpected) → BeginsText text number logic wanted (front ++ b ∷ []))
 
--- The code is told of the bytes at a place: the bytes in front of it begin a text, and lead to the reading.
+-- Nothing is told of a byte behind the first bytes: with it they begin a text, and between the readings that they lead to no limit is passed.
+pub record IsFree (text : ℕ → List ℕ) (number : List ℕ → ℕ) (logic : Logic) (wanted : Use) (front : List ℕ) (b : ℕ) : Type 0 where
+  pub begins : BeginsText text number logic wanted (front ++ b ∷ [])
+  pub before : Reading
+  pub behind : Reading
+  pub leads : run number logic (start wanted) front ≡ on before
+  pub goes : run number logic (start wanted) (front ++ b ∷ []) ≡ on behind
+  pub within : limit_of before behind ≡ None
+
+-- The code is told of the bytes at a place: nothing is told of a byte in front of it, and the bytes in front of it begin a text, and lead to the reading.
 pub record IsRefused (text : ℕ → List ℕ) (number : List ℕ → ℕ) (logic : Logic) (wanted : Use) (bytes : List ℕ) (code : Code) (place : ℕ) : Type 0 where
   pub front : List ℕ
   pub rest : List ℕ
@@ -162,12 +171,13 @@ pub record IsRefused (text : ℕ → List ℕ) (number : List ℕ → ℕ) (logi
   pub reading : Reading
   pub leads : run number logic (start wanted) front ≡ on reading
   pub begins : BeginsText text number logic wanted front
+  pub earlier : (before : List ℕ) (b : ℕ) (after : List ℕ) → front ≡ before ++ b ∷ after → IsFree text number logic wanted before b
   pub told : IsTold text number logic wanted reading front code rest
 
--- an outcome that is a refusal is told where it says
+-- the outcome is a refusal exactly where it is told so
 abbrev pub RefusalIsTold : Type 0
 RefusalIsTold = (text : ℕ → List ℕ) (number : List ℕ → ℕ) → GivesBack text number → (logic : Logic) (wanted : Use) (bytes : List ℕ) (code : Code) (place : ℕ)
-    → outcome number logic (start wanted) 0 bytes ≡ refused code place → IsRefused text number logic wanted bytes code place
+    → (outcome number logic (start wanted) 0 bytes ≡ refused code place) ↔ IsRefused text number logic wanted bytes code place
 
 -- A reader of a whole text stands at a place: by each numbering that agrees with the table the outcome is that of the bytes from there on.
 abbrev pub StandsAt : List (List ℕ) → Logic → Use → List ℕ → ℕ → Reading → Type 0

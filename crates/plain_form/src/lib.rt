@@ -29,8 +29,8 @@ pub fn laws_of_texts()
     ensures numbering { TableHasNumbering }
 {}
 
-/// Laws of outcomes: with a table of different names a whole text is read exactly where it is the text of a term or formula that keeps the limits, and a refusal
-/// is told at the first byte that goes on to begin no text or goes past a limit, or at the end of bytes that are no text.
+/// Laws of outcomes: with a table of different names a whole text is read exactly where it is the text of a term or formula that keeps the limits, and it is
+/// refused exactly at the first byte that goes on to begin no text or goes past a limit, or at the end of bytes that are no text.
 #[tactic(auto, using(crate::proofs::Laws::laws))]
 pub fn laws_of_outcomes()
     ensures term { TermOutcome }
