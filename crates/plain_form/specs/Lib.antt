@@ -1,0 +1,6 @@
+pub mod PlainReading
+pub mod PlainForm
+pub mod Numbering
+pub mod PlainTexts
+pub mod PlainLimits
+pub mod PlainPrinting
