@@ -1,0 +1,8 @@
+use Rattle.plain_form.proofs.Growth.{plain_grows, plain_term_grows}
+use Rattle.plain_form.proofs.laws_of_what_is_read.Goals as goal
+
+pub returns-clause-grown_term : goal.returns-clause-grown_term
+returns-clause-grown_term c = plain_term_grows
+
+pub returns-clause-grown_formula : goal.returns-clause-grown_formula
+returns-clause-grown_formula c = plain_grows

@@ -1,0 +1,5 @@
+pub mod PlainReading
+pub mod PlainForm
+pub mod Numbering
+pub mod PlainTexts
+pub mod PlainLimits

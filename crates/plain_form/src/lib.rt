@@ -1,0 +1,47 @@
+//! The plain form of terms and formulas as bytes: the laws that tie the reading byte by byte to the texts.
+#![tactic(auto)]
+
+ghost use Rattle.plain_form.specs.PlainForm.{FormulaIsOne, FormulaIsWhole, GoingBegins, PlainFormulaIsProper, PlainTermIsProper, TermIsOne, TermIsWhole};
+ghost use Rattle.plain_form.specs.PlainLimits.{FormulaOutcome, PlainGrows, PlainTermGrows, RefusalIsTold, TermOutcome};
+ghost use Rattle.plain_form.specs.PlainTexts.{FormulaIsRead, LineEnds, LinesAreShared, OnBegins, TableHasNumbering, TermIsRead};
+
+/// Laws of lines: the reading goes on exactly where the bytes begin a line, and what is whole is what the line holds. A line ends with the byte 10, which stands
+/// nowhere inside one, and holds one term or formula. What is a line hangs on no numbering.
+#[tactic(auto, using(crate::proofs::Laws::laws))]
+pub fn laws_of_lines()
+    ensures begins { GoingBegins }
+    ensures whole_term { TermIsWhole }
+    ensures whole_formula { FormulaIsWhole }
+    ensures one_term { TermIsOne }
+    ensures one_formula { FormulaIsOne }
+    ensures line_end { LineEnds }
+    ensures shared { LinesAreShared }
+{}
+
+/// Laws of texts: the reading stands inside a line exactly where the bytes begin a text, and with a table of different names a term or formula is read exactly
+/// from its text.
+#[tactic(auto, using(crate::proofs::Laws::laws))]
+pub fn laws_of_texts()
+    ensures begins { OnBegins }
+    ensures term { TermIsRead }
+    ensures formula { FormulaIsRead }
+    ensures numbering { TableHasNumbering }
+{}
+
+/// Laws of outcomes: with a table of different names a whole text is read exactly where it is the text of a term or formula that keeps the limits, and a refusal
+/// is told at the first byte that goes on to begin no text or goes past a limit, or at the end of bytes that are no text.
+#[tactic(auto, using(crate::proofs::Laws::laws))]
+pub fn laws_of_outcomes()
+    ensures term { TermOutcome }
+    ensures formula { FormulaOutcome }
+    ensures refusal { RefusalIsTold }
+{}
+
+/// Laws of what is read: it has no variable and no free bound index, a formula is of its logic, and both keep their texts as the table of names grows.
+#[tactic(auto, using(crate::proofs::Laws::laws))]
+pub fn laws_of_what_is_read()
+    ensures term { PlainTermIsProper }
+    ensures formula { PlainFormulaIsProper }
+    ensures grown_term { PlainTermGrows }
+    ensures grown_formula { PlainGrows }
+{}
