@@ -3,3 +3,4 @@ pub mod PlainForm
 pub mod Numbering
 pub mod PlainTexts
 pub mod PlainLimits
+pub mod PlainStanding
