@@ -5,6 +5,7 @@ use Rattle.fpc_base.specs.declared.refusal.Code.{Code}
 use Rattle.fpc_base.specs.declared.refusal.Code.TheVariants.{Unexpected, TooDeep, LongName, ManyArguments}
 use Rattle.fpc_base.specs.declared.refusal.TokenRefusal.{TokenRefusal}
 use Rattle.fpc_base.specs.declared.refusal.TokenRefusal.TheVariants.{Refused, OutOfMemory}
+use Rattle.fpc_base.specs.declared.outside.OutOfMemory as outside_world
 use Rattle.fpc_terms.specs.Name.{IsName, is_small_letter}
 use Rattle.fpc_terms.specs.Term.{Term, app, arg, no_args}
 use Rattle.fpc_terms.specs.Partial.{Frame, Partial, frame, nothing, with_term}
@@ -242,6 +243,20 @@ IsNamed number true w (Err (Refused code)) = code ≡ Unexpected
 IsNamed number _ w (Err OutOfMemory) = Unit {0}
 IsNamed _ _ _ _ = ⊥
 
+-- a reader's fields but for its mode and word, where no term is read
+pub record IsOutside (logic : Logic) (u : built.Unfinished) (r : PlainReader) : Type 0 where
+  pub logic_is : r.logic ≡ logic
+  pub outside : r.outside ≡ outside.TheVariants.Nothing
+  pub terms : r.terms ≡ nothing
+  pub formula : r.formula ≡ u
+
+-- a reader's fields but for its mode, where a literal with these arguments, the last one first, is to come
+pub record IsLiteral (logic : Logic) (hs : List Hole) (ts : List Term) (r : PlainReader) : Type 0 where
+  pub logic_is : r.logic ≡ logic
+  pub word : r.word.items ≡ []
+  pub terms : r.terms ≡ record { base = ts; frames = [] }
+  pub formula : r.formula ≡ built.wants (built_holes hs)
+
 -- a reader's fields but for its mode, and room, where a term comes
 pub record IsAround (logic : Logic) (up : Around) (r : PlainReader) : Type 0 where
   pub logic_is : r.logic ≡ logic
@@ -260,7 +275,7 @@ pub record IsBehind (logic : Logic) (up : Around) (t : Term) (r : PlainReader) :
   pub formula : r.formula ≡ formula_around up
 
 -- what is told where a part was added, or could not be, or memory ran out
-abbrev pub told_of : Result Bool (Unit {0}) → Result progress.Progress TokenRefusal
+abbrev pub told_of : Result Bool outside_world.OutOfMemory → Result progress.Progress TokenRefusal
 told_of (Ok true) = Ok progress.TheVariants.Going
 told_of (Ok false) = Err (Refused Unexpected)
 told_of (Err e) = Err OutOfMemory

@@ -8,9 +8,9 @@ ghost use Rattle.polarised_formulas.specs.declared.logic.Logic.{Logic};
 ghost use Rattle.polarised_formulas.specs.declared.logic.Logic.TheVariants.{Lkf, Ljf};
 ghost use Rattle.polarised_formulas.specs.Formula.{Formula, atom};
 ghost use Rattle.polarised_formulas.specs.Unfinished.{wants, has};
-ghost use Rattle.plain_form.specs.PlainReading.{Hole, Around, alone, in_term, in_atom, Reading, at_formula, in_word, at_name, in_name, behind_formula, in_operator, at_term, in_function, at_eigen, in_eigen, at_index, in_index, behind_term, on, wrong, second_of, next, end_formula, end_term, end_name, end_function, after_word, args_onto, depth_around, is_keyword};
+ghost use Rattle.plain_form.specs.PlainReading.{Hole, Around, alone, in_term, in_atom, Reading, at_formula, in_word, at_name, in_name, behind_formula, in_operator, at_term, in_function, at_eigen, in_eigen, at_index, in_index, behind_term, on, wrong, first_of, second_of, next, end_formula, end_term, end_name, end_function, after_word, args_onto, depth_around, is_keyword};
 ghost use Rattle.plain_form.specs.PlainLimits.{nesting};
-ghost use Rattle.plain_form.specs.PlainStanding.{Stands, IsAround, IsBehind, IsNext, IsOn, IsNamed, begun, BeginsWord, word_meant, operator_of, built_holes, formula_around, told_of};
+ghost use Rattle.plain_form.specs.PlainStanding.{Stands, IsOutside, IsLiteral, IsAround, IsBehind, IsNext, IsOn, IsNamed, begun, BeginsWord, word_meant, operator_of, built_holes, formula_around, told_of};
 
 mod words;
 
@@ -188,8 +188,8 @@ impl PlainReader {
 
     /// Takes all out. The memory of the last formula alone is given back.
     fn clear(&mut self)
-        ensures { (self.new.logic ≡ self.old.logic) × (self.new.word.items ≡ []) × (self.new.outside ≡ Outside.Nothing) × (self.new.terms ≡ Rattle.fpc_terms.specs.Partial.nothing)
-            × (self.new.formula ≡ Rattle.polarised_formulas.specs.Unfinished.nothing) }
+        ensures word { self.new.word.items ≡ [] }
+        ensures parts { IsOutside self.old.logic (wants []) self.new }
     {
         self.word.clear();
         self.outside = Outside::Nothing;
@@ -323,8 +323,7 @@ impl PlainReader {
 
     /// Takes a word that is whole.
     fn end_word(&mut self, word: Word) -> Result<Progress, TokenRefusal>
-        ensures { (logic : Logic) (hs : List Hole) (w : List ℕ) → self.old.logic ≡ logic → self.old.outside ≡ Outside.Nothing → self.old.terms ≡ Rattle.fpc_terms.specs.Partial.nothing
-            → self.old.formula ≡ wants (built_holes hs) → IsNext logic 0 result self.new (after_word hs (word_meant word)) }
+        ensures { (logic : Logic) (hs : List Hole) → IsOutside logic (wants (built_holes hs)) self.old → IsNext logic 0 result self.new (after_word hs (word_meant word)) }
     {
         self.word.clear();
         match word {
@@ -392,8 +391,8 @@ impl PlainReader {
 
     /// Adds a literal with the terms that were read.
     fn add_literal(&mut self, positive: bool, name: NameId) -> Result<(), TokenRefusal>
-        ensures { (logic : Logic) (hs : List Hole) (ts : List Term) → self.old.logic ≡ logic → self.old.word.items ≡ [] → self.old.terms ≡ record { base = ts; frames = [] }
-            → self.old.formula ≡ wants (built_holes hs) → IsOn logic (behind_formula hs (atom positive name (args_onto ts no_args))) result self.new }
+        ensures { (logic : Logic) (hs : List Hole) (ts : List Term) → IsLiteral logic hs ts self.old
+            → IsOn logic (behind_formula hs (atom positive name (args_onto ts no_args))) result self.new }
     {
         match self.formula.literal(positive, name, &self.terms) {
             Ok(true) => {
@@ -469,8 +468,8 @@ impl PlainReader {
 
     /// Takes a connective that is whole.
     fn end_operator(&mut self, joiner: Joiner) -> Result<Progress, TokenRefusal>
-        ensures { (logic : Logic) (hs : List Hole) (a : Formula) → self.old.logic ≡ logic → self.old.outside ≡ Outside.Nothing → self.old.terms ≡ Rattle.fpc_terms.specs.Partial.nothing
-            → self.old.formula ≡ has a (Rattle.polarised_formulas.specs.Unfinished.first_of ∷ built_holes hs) → IsNext logic 0 result self.new (on (at_formula (second_of (operator_of joiner) a ∷ hs))) }
+        ensures { (logic : Logic) (hs : List Hole) (a : Formula) → IsOutside logic (has a (built_holes (first_of ∷ hs))) self.old
+            → IsNext logic 0 result self.new (on (at_formula (second_of (operator_of joiner) a ∷ hs))) }
     {
         self.word.clear();
         self.mode = Mode::AtFormula;
@@ -690,8 +689,8 @@ impl PlainReader {
 
     /// Adds the literal whose arguments are whole.
     fn end_literal(&mut self, positive: bool, name: NameId) -> Result<Progress, TokenRefusal>
-        ensures { (logic : Logic) (hs : List Hole) (ts : List Term) → self.old.logic ≡ logic → self.old.word.items ≡ [] → self.old.terms ≡ record { base = ts; frames = [] }
-            → self.old.formula ≡ wants (built_holes hs) → IsNext logic 0 result self.new (on (behind_formula hs (atom positive name (args_onto ts no_args)))) }
+        ensures { (logic : Logic) (hs : List Hole) (ts : List Term) → IsLiteral logic hs ts self.old
+            → IsNext logic 0 result self.new (on (behind_formula hs (atom positive name (args_onto ts no_args)))) }
     {
         match self.add_literal(positive, name) {
             Ok(()) => Ok(Progress::Going),
