@@ -21,3 +21,4 @@ pub mod Refusals
 pub mod Standing
 pub mod Growth
 pub mod Steps
+pub mod Answering

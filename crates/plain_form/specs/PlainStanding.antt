@@ -15,7 +15,7 @@ use Rattle.polarised_formulas.specs.declared.connective.Joiner as joiner
 use Rattle.polarised_formulas.specs.declared.connective.Binder as binder
 use Rattle.polarised_formulas.specs.Formula.{Formula}
 use Rattle.polarised_formulas.specs.Unfinished as built
-use Rattle.plain_form.specs.PlainReading.{Operator, conjunction, disjunction, implication, Quantifier, every, some, Word, true_unit, false_unit, binder, Hole, first_of, second_of, under, Around, alone, in_term, in_atom, Reading, at_formula, in_word, at_name, in_name, behind_formula, in_operator, at_term, in_function, at_eigen, in_eigen, at_index, in_index, behind_term, Next, on, whole_term, whole_formula, wrong}
+use Rattle.plain_form.specs.PlainReading.{Operator, conjunction, disjunction, implication, Quantifier, every, some, Word, true_unit, false_unit, binder, Hole, first_of, second_of, under, Around, alone, in_term, in_atom, Reading, at_formula, in_word, at_name, in_name, behind_formula, in_operator, at_term, in_function, at_eigen, in_eigen, at_index, in_index, behind_term, Next, on, whole_term, whole_formula, wrong, next}
 use Rattle.plain_form.specs.PlainLimits.{name_length, arguments_of, arguments_before}
 use Rattle.plain_form.specs.declared.reader.Mode as mode
 use Rattle.plain_form.specs.declared.reader.Outside as outside
@@ -279,3 +279,7 @@ abbrev pub told_of : Result Bool outside_world.OutOfMemory → Result progress.P
 told_of (Ok true) = Ok progress.TheVariants.Going
 told_of (Ok false) = Err (Refused Unexpected)
 told_of (Err e) = Err OutOfMemory
+
+-- what a byte does where no name ends
+abbrev pub next_unnamed : Logic → Reading → ℕ → Next
+next_unnamed logic q b = next (λ w. 0) logic q b

@@ -1,5 +1,5 @@
 //! A term or a formula in plain form that is read byte by byte.
-ghost use Rattle.std.specs.Prelude.{◌≡◌, ℕ, suc, ◌∷◌, ◌++◌, [], List, Bool, true, false, Some, None, Ok, Err, OnOk, IsTrue, ◌↔◌, ◌<◌, ◌≤◌, length, nat_lt, if◌then◌else◌};
+ghost use Rattle.std.specs.Prelude.{◌≡◌, ℕ, suc, ◌∷◌, ◌++◌, [], List, Bool, true, false, Some, None, Ok, Err, OnOk, IsTrue, ◌↔◌, ◌<◌, ◌≤◌, length, nat_eq, nat_lt, if◌then◌else◌};
 ghost use Rattle.fpc_base.specs.declared.refusal.Code.TheVariants.{LongName};
 ghost use Rattle.fpc_base.specs.declared.refusal.TokenRefusal.TheVariants.{Refused};
 ghost use Rattle.fpc_terms.specs.Name.{Agrees, Grows, IsName, is_small_letter, is_name_byte};
@@ -10,7 +10,7 @@ ghost use Rattle.polarised_formulas.specs.Formula.{Formula, atom};
 ghost use Rattle.polarised_formulas.specs.Unfinished.{wants, has};
 ghost use Rattle.plain_form.specs.PlainReading.{Hole, Around, alone, in_term, in_atom, Reading, at_formula, in_word, at_name, in_name, behind_formula, in_operator, at_term, in_function, at_eigen, in_eigen, at_index, in_index, behind_term, on, wrong, first_of, second_of, next, end_formula, end_term, end_name, end_function, after_word, args_onto, depth_around, is_keyword};
 ghost use Rattle.plain_form.specs.PlainLimits.{nesting};
-ghost use Rattle.plain_form.specs.PlainStanding.{Stands, IsOutside, IsLiteral, IsAround, IsBehind, IsNext, IsOn, IsNamed, begun, BeginsWord, word_meant, operator_of, built_holes, formula_around, told_of};
+ghost use Rattle.plain_form.specs.PlainStanding.{Stands, IsOutside, IsLiteral, IsAround, IsBehind, IsNext, IsOn, IsNamed, begun, BeginsWord, word_meant, operator_of, built_holes, formula_around, told_of, next_unnamed};
 
 mod words;
 
@@ -101,7 +101,7 @@ pub struct PlainReader {
 
 /// How a formula may begin with this byte.
 fn begins_with(logic: Logic, b: u8) -> Option<Beginning>
-    ensures begun { (number : List ℕ → ℕ) (hs : List Hole) → next number logic (at_formula hs) b ≡ begun hs b result }
+    ensures begun { (hs : List Hole) → next_unnamed logic (at_formula hs) b ≡ begun hs b result }
     ensures letter { (beginning : Beginning) → result ≡ Some beginning → BeginsWord logic b beginning }
 {
     if b == b'(' {
@@ -154,6 +154,7 @@ fn name_of(names: &mut Names, word: &[u8]) -> Result<NameId, TokenRefusal>
     }
 }
 
+#[tactic(auto, using(crate::proofs::Answering::answering))]
 impl PlainReader {
     /// The reader of a formula of the logic, which is to come. It takes no memory.
     pub fn new(alloc: Global, logic: Logic) -> PlainReader
@@ -222,20 +223,29 @@ impl PlainReader {
     }
 
     fn at_formula(&mut self, b: u8) -> Result<Progress, TokenRefusal>
-        ensures { (number : List ℕ → ℕ) (logic : Logic) (hs : List Hole) → Stands logic (at_formula hs) self.old
-            → IsNext logic (suc (length hs)) result self.new (next number logic (at_formula hs) b) }
+        ensures { (logic : Logic) (hs : List Hole) → Stands logic (at_formula hs) self.old
+            → IsNext logic (suc (length hs)) result self.new (next_unnamed logic (at_formula hs) b) }
     {
-        let Some(beginning) = begins_with(self.logic, b) else {
-            return Err(TokenRefusal::Refused(Code::Unexpected));
-        };
-        if self.formula.depth() >= 10_000 {
-            return Err(TokenRefusal::Refused(Code::TooDeep));
+        match begins_with(self.logic, b) {
+            Some(beginning) => self.begin_part(beginning, b),
+            None => Err(TokenRefusal::Refused(Code::Unexpected)),
         }
-        self.begin_part(beginning, b)
+    }
+
+    /// Begins a formula, where it is not too deep.
+    fn begin_part(&mut self, beginning: Beginning, b: u8) -> Result<Progress, TokenRefusal>
+        ensures { (logic : Logic) (hs : List Hole) → Stands logic (at_formula hs) self.old → BeginsWord logic b beginning
+            → IsNext logic (suc (length hs)) result self.new (begun hs b (Some beginning)) }
+    {
+        if self.formula.depth() >= 10_000 {
+            Err(TokenRefusal::Refused(Code::TooDeep))
+        } else {
+            self.begin_shallow_part(beginning, b)
+        }
     }
 
     /// Begins a formula that is not too deep.
-    fn begin_part(&mut self, beginning: Beginning, b: u8) -> Result<Progress, TokenRefusal>
+    fn begin_shallow_part(&mut self, beginning: Beginning, b: u8) -> Result<Progress, TokenRefusal>
         ensures { (logic : Logic) (hs : List Hole) (n : ℕ) → Stands logic (at_formula hs) self.old → n ≤ 10000 → BeginsWord logic b beginning
             → IsNext logic n result self.new (begun hs b (Some beginning)) }
     {
@@ -285,8 +295,8 @@ impl PlainReader {
     }
 
     fn in_ljf_word(&mut self, b: u8) -> Result<Progress, TokenRefusal>
-        ensures { (number : List ℕ → ℕ) (hs : List Hole) (w : List ℕ) → Stands Ljf (in_word hs w) self.old
-            → IsNext Ljf 0 result self.new (next number Ljf (in_word hs w) b) }
+        ensures { (hs : List Hole) (w : List ℕ) → Stands Ljf (in_word hs w) self.old
+            → IsNext Ljf 0 result self.new (next_unnamed Ljf (in_word hs w) b) }
     {
         push(&mut self.word, b)?;
         if let Some(word) = word_with(Logic::Ljf, self.word.as_slice()) {
@@ -347,8 +357,8 @@ impl PlainReader {
     }
 
     fn at_name(&mut self, positive: bool, b: u8) -> Result<Progress, TokenRefusal>
-        ensures { (number : List ℕ → ℕ) (logic : Logic) (hs : List Hole) → Stands logic (at_name hs positive) self.old
-            → IsNext logic 0 result self.new (next number logic (at_name hs positive) b) }
+        ensures { (logic : Logic) (hs : List Hole) → Stands logic (at_name hs positive) self.old
+            → IsNext logic 0 result self.new (next_unnamed logic (at_name hs positive) b) }
     {
         if !is_small_letter(b) {
             return Err(TokenRefusal::Refused(Code::Unexpected));
@@ -376,8 +386,20 @@ impl PlainReader {
         ensures next { (number : List ℕ → ℕ) (logic : Logic) (hs : List Hole) (w : List ℕ) → Agrees number names.new → Stands logic (in_name hs positive w) self.old
             → IsNext logic 0 result self.new (end_name number hs positive w b) }
     {
-        let name = name_of(names, self.word.as_slice())?;
-        self.word.clear();
+        match name_of(names, self.word.as_slice()) {
+            Ok(name) => {
+                self.word.clear();
+                self.end_named_literal(positive, name, b)
+            }
+            Err(refusal) => Err(refusal),
+        }
+    }
+
+    /// Takes the byte behind a literal so far.
+    fn end_named_literal(&mut self, positive: bool, name: NameId, b: u8) -> Result<Progress, TokenRefusal>
+        ensures { (logic : Logic) (hs : List Hole) → IsLiteral logic hs [] self.old
+            → IsNext logic 0 result self.new (if nat_eq b 40 then on (at_term (in_atom hs positive name [])) else end_formula hs (atom positive name no_args) b) }
+    {
         if b == b'(' {
             self.outside = Outside::Literal(positive, name);
             self.mode = Mode::AtTerm;
@@ -421,7 +443,10 @@ impl PlainReader {
     fn end_first_part(&mut self) -> Result<Progress, TokenRefusal>
         ensures { (logic : Logic) (hs : List Hole) (f : Formula) → Stands logic (behind_formula hs f) self.old → IsNext logic 0 result self.new (end_formula hs f 32) }
     {
-        if self.formula.close() || self.formula.depth() == 0 {
+        if self.formula.close() {
+            return Err(TokenRefusal::Refused(Code::Unexpected));
+        }
+        if self.formula.depth() == 0 {
             return Err(TokenRefusal::Refused(Code::Unexpected));
         }
         self.mode = Mode::InOperator;
@@ -452,8 +477,8 @@ impl PlainReader {
     }
 
     fn in_operator(&mut self, b: u8) -> Result<Progress, TokenRefusal>
-        ensures { (number : List ℕ → ℕ) (logic : Logic) (hs : List Hole) (a : Formula) (w : List ℕ) → Stands logic (in_operator hs a w) self.old
-            → IsNext logic 0 result self.new (next number logic (in_operator hs a w) b) }
+        ensures { (logic : Logic) (hs : List Hole) (a : Formula) (w : List ℕ) → Stands logic (in_operator hs a w) self.old
+            → IsNext logic 0 result self.new (next_unnamed logic (in_operator hs a w) b) }
     {
         push(&mut self.word, b)?;
         if let Some(joiner) = operator_with(self.logic, self.word.as_slice()) {
@@ -481,8 +506,8 @@ impl PlainReader {
     }
 
     fn at_term(&mut self, b: u8) -> Result<Progress, TokenRefusal>
-        ensures { (number : List ℕ → ℕ) (logic : Logic) (up : Around) → Stands logic (at_term up) self.old
-            → IsNext logic 0 result self.new (next number logic (at_term up) b) }
+        ensures { (logic : Logic) (up : Around) → Stands logic (at_term up) self.old
+            → IsNext logic 0 result self.new (next_unnamed logic (at_term up) b) }
     {
         if b == b'$' {
             self.mode = Mode::AtEigen;
@@ -537,8 +562,20 @@ impl PlainReader {
         ensures next { (number : List ℕ → ℕ) (logic : Logic) (up : Around) (w : List ℕ) → Agrees number names.new → Stands logic (in_function up w) self.old
             → IsNext logic 0 result self.new (end_function number up w b) }
     {
-        let name = name_of(names, self.word.as_slice())?;
-        self.word.clear();
+        match name_of(names, self.word.as_slice()) {
+            Ok(name) => {
+                self.word.clear();
+                self.end_named_term(name, b)
+            }
+            Err(refusal) => Err(refusal),
+        }
+    }
+
+    /// Takes the byte behind a name so far.
+    fn end_named_term(&mut self, name: NameId, b: u8) -> Result<Progress, TokenRefusal>
+        ensures { (logic : Logic) (up : Around) → IsAround logic up self.old
+            → IsNext logic 0 result self.new (if nat_eq b 40 then on (at_term (in_term name [] up)) else end_term up (app name no_args) b) }
+    {
         if b == b'(' {
             self.open_application(name)
         } else {
@@ -580,8 +617,8 @@ impl PlainReader {
     }
 
     fn at_eigen(&mut self, b: u8) -> Result<Progress, TokenRefusal>
-        ensures { (number : List ℕ → ℕ) (logic : Logic) (up : Around) → Stands logic (at_eigen up) self.old
-            → IsNext logic 0 result self.new (next number logic (at_eigen up) b) }
+        ensures { (logic : Logic) (up : Around) → Stands logic (at_eigen up) self.old
+            → IsNext logic 0 result self.new (next_unnamed logic (at_eigen up) b) }
     {
         if !is_digit(b) {
             return Err(TokenRefusal::Refused(Code::Unexpected));
@@ -591,8 +628,8 @@ impl PlainReader {
     }
 
     fn in_eigen(&mut self, number: u32, b: u8) -> Result<Progress, TokenRefusal>
-        ensures { (numbering : List ℕ → ℕ) (logic : Logic) (up : Around) → Stands logic (in_eigen up number) self.old
-            → IsNext logic 0 result self.new (next numbering logic (in_eigen up number) b) }
+        ensures { (logic : Logic) (up : Around) → Stands logic (in_eigen up number) self.old
+            → IsNext logic 0 result self.new (next_unnamed logic (in_eigen up number) b) }
     {
         if let Some(grown) = with_digit(number, b) {
             self.mode = Mode::InEigen(grown);
@@ -606,8 +643,8 @@ impl PlainReader {
     }
 
     fn at_index(&mut self, b: u8) -> Result<Progress, TokenRefusal>
-        ensures { (number : List ℕ → ℕ) (logic : Logic) (up : Around) → Stands logic (at_index up) self.old
-            → IsNext logic 0 result self.new (next number logic (at_index up) b) }
+        ensures { (logic : Logic) (up : Around) → Stands logic (at_index up) self.old
+            → IsNext logic 0 result self.new (next_unnamed logic (at_index up) b) }
     {
         if !is_digit(b) || !self.binds(u32::from(b - b'0')) {
             return Err(TokenRefusal::Refused(Code::Unexpected));
@@ -624,8 +661,8 @@ impl PlainReader {
     }
 
     fn in_index(&mut self, index: u32, b: u8) -> Result<Progress, TokenRefusal>
-        ensures { (number : List ℕ → ℕ) (logic : Logic) (up : Around) → Stands logic (in_index up index) self.old
-            → IsNext logic 0 result self.new (next number logic (in_index up index) b) }
+        ensures { (logic : Logic) (up : Around) → Stands logic (in_index up index) self.old
+            → IsNext logic 0 result self.new (next_unnamed logic (in_index up index) b) }
     {
         match with_digit(index, b) {
             Some(grown) if self.binds(grown) => {
