@@ -8,13 +8,14 @@ use Rattle.fpc_terms.specs.Term.{Term, Args, arg, no_args}
 use Rattle.fpc_terms.specs.Partial as parts
 use Rattle.polarised_formulas.specs.declared.logic.Logic.{Logic}
 use Rattle.polarised_formulas.specs.declared.connective.Joiner as joiner
-use Rattle.polarised_formulas.specs.Formula.{Formula}
+use Rattle.polarised_formulas.specs.Formula.{Formula, atom}
 use Rattle.polarised_formulas.specs.Unfinished as built
 use Rattle.plain_form.specs.PlainReading.{Operator, conjunction, disjunction, implication, Quantifier, every, some, binary, quantified, Hole, first_of, second_of, under, depth_of, Around, alone, in_term, in_atom, depth_around, Reading, at_formula, behind_formula, in_operator, at_term, behind_term, Next, on, whole_term, whole_formula, wrong, args_onto, end_formula, end_term}
 use Rattle.plain_form.specs.declared.reader.Mode as mode
+use Rattle.plain_form.specs.declared.reader.Outside as outside
 use Rattle.plain_form.specs.declared.reader.Progress as progress
 use Rattle.plain_form.specs.declared.reader.PlainReader.{PlainReader}
-use Rattle.plain_form.specs.PlainStanding.{joiner_of, operator_of, binder_of, built_holes, formula_around, Stands, IsNext, IsOn, IsNamed}
+use Rattle.plain_form.specs.PlainStanding.{joiner_of, operator_of, binder_of, built_holes, formula_around, Stands, IsLiteral, IsNext, IsOn, IsNamed}
 
 pub joiner_of-operator_of : (j : joiner.Joiner) → joiner_of (operator_of j) ≡ j
 joiner_of-operator_of (joiner.TheVariants.And p) = refl
@@ -110,7 +111,7 @@ module _ (logic : Logic) (hs : List Hole) (f : Formula) (old : PlainReader) (h :
       by (closes gs g c u n) = let no : ⊥ = cc in absurd no
       by (stays c n) = rw n refl
 
-  pub parts-pair : (new : PlainReader) → built.takes_close (built.left old.formula) ≡ false → (length (built.holes_in (built.left old.formula)) ≡ 0 → ⊥)
+  pub parts-pair : (new : PlainReader) → built.takes_close (built.left old.formula) ≡ false → (length (built.holes_in (built.closed (built.left old.formula))) ≡ 0 → ⊥)
       → new ≡ record old { mode = mode.TheVariants.InOperator; formula = built.closed (built.left old.formula) } → IsNext logic 0 (Ok progress.TheVariants.Going) new (end_formula hs f 32)
   parts-pair new t d e = by (subst (λ u. Parting u (end_formula hs f 32)) (sym here) (parting hs f))
     where
@@ -170,5 +171,20 @@ named-err number true w (Refused code) logic r n h = h
 named-err number true w OutOfMemory logic r n h = tt
 named-err number false w (Refused code) logic r n h = absurd h
 named-err number false w OutOfMemory logic r n h = tt
+
+-- the arguments of a literal are whole
+pub closes-literal : (logic : Logic) (up : Around) (t : Term) (old new : PlainReader) (positive : Bool) (name : ℕ) (result : Result progress.Progress TokenRefusal) → Stands logic (behind_term up t) old → old.terms.frames ≡ []
+    → old.outside ≡ outside.TheVariants.Literal positive name → ((hs : List Hole) (ts : List Term) → IsLiteral logic hs ts old → IsNext logic 0 result new (on (behind_formula hs (atom positive name (args_onto ts no_args)))))
+    → IsNext logic 0 result new (end_term up t 41)
+closes-literal logic alone t old new positive name result h e o by = let no : ⊥ = cc in absurd no
+closes-literal logic (in_term f ts up) t old new positive name result h e o by = absurd (not-open _ _ (rw h.terms at e))
+  where
+    not-open : {A : Type 0} (x : A) (xs : List A) → x ∷ xs ≡ [] → ⊥
+    not-open x xs e = cc
+closes-literal logic (in_atom hs p f ts) t old new positive name result h e o by =
+    let same : outside.TheVariants.Literal p f ≡ outside.TheVariants.Literal positive name = cc in
+    let a : p ≡ positive = cc in
+    let b : f ≡ name = cc in
+    rw (a, b) (by hs (t ∷ ts) (record { logic_is = h.logic_is; word = h.word; terms = h.terms; formula = h.formula }))
 
 pub ruleset answering = (joiner_of-operator_of, length-built_holes, quantifiers-around, args_onto-same, end_formula-wrong)
