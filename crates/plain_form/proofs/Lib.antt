@@ -22,3 +22,4 @@ pub mod Standing
 pub mod Growth
 pub mod Steps
 pub mod Answering
+pub mod Wanted

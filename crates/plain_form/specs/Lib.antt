@@ -4,3 +4,4 @@ pub mod Numbering
 pub mod PlainTexts
 pub mod PlainLimits
 pub mod PlainStanding
+pub mod PlainTaking
