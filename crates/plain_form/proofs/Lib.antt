@@ -22,3 +22,5 @@ pub mod Standing
 pub mod Growth
 pub mod Steps
 pub mod Printing
+pub mod Answering
+pub mod Wanted

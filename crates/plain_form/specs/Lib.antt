@@ -4,3 +4,5 @@ pub mod Numbering
 pub mod PlainTexts
 pub mod PlainLimits
 pub mod PlainPrinting
+pub mod PlainStanding
+pub mod PlainTaking

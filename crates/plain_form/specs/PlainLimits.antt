@@ -1,7 +1,7 @@
 -- The limits of plain texts, and what a reader of a whole text tells of its bytes.
-use Rattle.std.specs.Prelude.{◌≡◌, ℕ, suc, ◌<◌, ◌≤◌, ◌↔◌, if◌then◌else◌, nat_lt, List, [], ◌∷◌, ◌++◌, length, drop, Option, Some, None}
+use Rattle.std.specs.Prelude.{◌≡◌, ℕ, suc, ◌<◌, ◌≤◌, ◌↔◌, if◌then◌else◌, nat_lt, nat_le, List, [], ◌∷◌, ◌++◌, length, drop, Option, Some, None}
 use Rattle.fpc_base.specs.declared.refusal.Code.{Code}
-use Rattle.fpc_base.specs.declared.refusal.Code.TheVariants.{Unexpected, TooDeep, LongName, ManyArguments}
+use Rattle.fpc_base.specs.declared.refusal.Code.TheVariants.{Unexpected, TooDeep, LongName, ManyArguments, TooLarge}
 use Rattle.fpc_terms.specs.Name.{Agrees, AreDifferent, Grows}
 use Rattle.fpc_terms.specs.Term.{Term, Args, eigen, bound, variable, app, no_args, arg, count}
 use Rattle.fpc_terms.specs.Text.{name_in, term_text}
@@ -196,3 +196,17 @@ PlainGrows = (old new : List (List ℕ)) → Grows old new → AreDifferent new 
 abbrev pub PlainTermGrows : Type 0
 PlainTermGrows = (old new : List (List ℕ)) → Grows old new → AreDifferent new → (t : Term) → IsPlainTermIn old t
     → IsPlainTermIn new t × (term_text new t ≡ term_text old t) × (FitsTerm (name_in old) t → FitsTerm (name_in new) t)
+
+-- an outcome that needs the byte behind so many is that the text is too large
+abbrev pub cut : ℕ → Outcome → Outcome
+cut most (refused code place) = if nat_lt place most then refused code place else refused TooLarge most
+cut most (a_term t) = refused TooLarge most
+cut most (a_formula f) = refused TooLarge most
+
+-- the outcome of a text of some length, where it may have at most so many bytes
+abbrev pub at_most : ℕ → ℕ → Outcome → Outcome
+at_most most long o = if nat_le long most then o else cut most o
+
+-- By each numbering that agrees with the table the bytes are refused so, where a text has at most 67,108,864 bytes: what lies first counts, and at its own byte this limit does.
+abbrev pub ComesRefused : List (List ℕ) → Logic → Use → List ℕ → Code → ℕ → Type 0
+ComesRefused names logic wanted bytes code place = (number : List ℕ → ℕ) → Agrees number names → at_most 67108864 (length bytes) (outcome number logic (start wanted) 0 bytes) ≡ refused code place

@@ -1,6 +1,12 @@
 //! The plain form of terms and formulas as bytes: the laws that tie the reading byte by byte to the texts.
 #![tactic(auto)]
 
+pub mod read;
+pub mod reader;
+
+pub use read::read_plain_formula;
+pub use reader::{PlainReader, Progress};
+
 ghost use Rattle.plain_form.specs.PlainForm.{FormulaIsOne, FormulaIsWhole, GoingBegins, PlainFormulaIsProper, PlainTermIsProper, TermIsOne, TermIsWhole};
 ghost use Rattle.plain_form.specs.PlainLimits.{FormulaOutcome, PlainGrows, PlainTermGrows, RefusalIsTold, TermOutcome};
 ghost use Rattle.plain_form.specs.PlainPrinting.{FormulaIsPlain, FormulaIsReadBack, TermIsPlain, TermIsReadBack};
