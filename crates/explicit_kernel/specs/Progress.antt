@@ -1,19 +1,10 @@
 -- How far the check of an explicit certificate has come.
 use Rattle.std.specs.Prelude.{◌≡◌, ℕ, ◌+◌, List, length}
-use Rattle.polarised_formulas.specs.declared.logic.Logic.TheVariants.{Lkf}
 use Rattle.polarised_formulas.specs.declared.step.Step as code
 use Rattle.polarised_formulas.specs.Formula.{Formula}
-use Rattle.polarised_formulas.specs.Step.{IsProperStep}
 use Rattle.lkf_rules.specs.Sequent.{Levelled}
 use Rattle.lkf_rules.specs.Play.{Plays, start_of}
 use Rattle.lkf_rules.specs.Certificate.{IsSpelling}
-use Rattle.explicit_kernel.specs.declared.lines.Line as line
-use Rattle.explicit_kernel.specs.declared.lines.Line.TheVariants.{Step, End}
-
--- the step of the line names nothing with variables or free bound indexes
-abbrev pub IsProperLine : line.Line → Type 0
-IsProperLine (Step step) = IsProperStep Lkf step
-IsProperLine End = Unit {0}
 
 -- some steps play n sequents further, from the first list to the second
 abbrev pub Advances : List Levelled → ℕ → List Levelled → ℕ → Type 0

@@ -1,6 +1,4 @@
 //! The lines of explicit certificates: for now the steps `or-`, `store`, `decide k` and `init k`.
-ghost use Rattle.std.specs.Prelude.{IfSome};
-ghost use Rattle.explicit_kernel.specs.Progress.{IsProperLine};
 
 use polarised_formulas::step::Step;
 
@@ -35,9 +33,7 @@ fn place(digits: &[u8]) -> Option<u64> {
 }
 
 /// The line that the bytes are, without its line end.
-pub fn line_of(bytes: &[u8]) -> Option<Line>
-    ensures { IfSome result IsProperLine }
-{
+pub fn line_of(bytes: &[u8]) -> Option<Line> {
     if bytes == b"or-".as_slice() {
         Some(Line::Step(Step::OrN))
     } else if bytes == b"store".as_slice() {

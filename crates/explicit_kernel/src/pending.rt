@@ -1,8 +1,6 @@
 //! The sequents still to be derived.
-ghost use Rattle.std.specs.Prelude.{◌≡◌, ◌↔◌, ◌++◌, ◌<◌, drop, ◌-◌, ◌^◌, [], List, IsTrue, OnOk, IfOk, Err};
+ghost use Rattle.std.specs.Prelude.{◌≡◌, ◌≢◌, ◌↔◌, ◌++◌, ◌<◌, drop, ◌-◌, ◌^◌, [], List, IsTrue, OnOk, IfOk, Err};
 ghost use Rattle.std.specs.List.{AllByRecursion};
-ghost use Rattle.polarised_formulas.specs.declared.logic.Logic.TheVariants.{Lkf};
-ghost use Rattle.polarised_formulas.specs.Step.{IsProperStep};
 ghost use Rattle.lkf_rules.specs.Sequent.{Levelled};
 ghost use Rattle.lkf_rules.specs.Play.{PlaysOne, Fits, start_of};
 ghost use Rattle.lkf_rules.specs.Values.{premise_list};
@@ -55,12 +53,11 @@ impl Pending {
     }
 
     /// Replaces the next sequent by the premises of the rule instance that the step names, which stand before the others.
-    /// Where no sequent is left, or the step names no instance at the next one, it does not fit.
+    /// Where no sequent is left, or the step names no instance at the next one, it does not fit; a `cut` may run out of memory before that is known.
     pub(crate) fn play(&mut self, alloc: Global, step: &Step) -> Result<(), StepRefusal>
         requires levels { AllByRecursion (λ p. p.0 < 2 ^ 64 - 1) self.old }
-        requires step { IsProperStep Lkf step.now }
         ensures fits { OnOk result (PlaysOne self.old step.now self.new) }
-        ensures unfit { result ≡ Err StepRefusal.DoesNotFit ↔ ((r : List Levelled) → PlaysOne self.old step.now r → ⊥) }
+        ensures unfit { result ≡ Err StepRefusal.DoesNotFit ↔ ((r : List Levelled) → PlaysOne self.old step.now r → ⊥) × (result ≢ Err StepRefusal.OutOfMemory) }
     {
         match self.sequents.top() {
             None => Err(StepRefusal::DoesNotFit),

@@ -2,8 +2,6 @@
 ghost use Rattle.std.specs.Prelude.{◌≡◌, ◌↔◌, List, ◌+◌, ◌-◌, ◌^◌, ◌<◌, ◌≤◌, ◌≢◌, [], OnOk, OnErr, IfOk, Err};
 ghost use Rattle.lkf_rules.specs.Sequent.{Levelled};
 ghost use Rattle.lkf_rules.specs.Play.{PlaysOne, start_of};
-ghost use Rattle.polarised_formulas.specs.declared.logic.Logic.TheVariants.{Lkf};
-ghost use Rattle.polarised_formulas.specs.Step.{IsProperStep};
 ghost use Rattle.explicit_kernel.specs.Pending.{AreLow};
 ghost use Rattle.explicit_kernel.specs.Progress.{Advances};
 
@@ -45,12 +43,11 @@ impl Play {
     ) -> Result<(), StepRefusal>
         requires low { AreLow self.old.fitted self.old.pending }
         requires few { self.old.fitted < 2 ^ 32 }
-        requires step { IsProperStep Lkf step.now }
         ensures fits { OnOk result (Advances self.old.pending self.old.fitted self.new.pending self.new.fitted) }
         ensures low { OnOk result (AreLow self.new.fitted self.new.pending) }
         ensures one { OnOk result (self.new.fitted ≡ self.old.fitted + 1) }
         ensures ticks { OnOk result (steps.new ≡ steps.old + 1) }
-        ensures unfit { result ≡ Err StepRefusal.DoesNotFit ↔ ((r : List Levelled) → PlaysOne self.old.pending step.now r → ⊥) }
+        ensures unfit { result ≡ Err StepRefusal.DoesNotFit ↔ ((r : List Levelled) → PlaysOne self.old.pending step.now r → ⊥) × (result ≢ Err StepRefusal.OutOfMemory) }
         ensures none { OnErr result (self.new.fitted ≡ self.old.fitted) }
         ensures no_tick { OnErr result (steps.new ≡ steps.old) }
     {

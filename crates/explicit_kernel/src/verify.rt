@@ -2,10 +2,9 @@
 ghost use Rattle.std.specs.Prelude.{◌≡◌, ◌≢◌, ◌+◌, ◌-◌, ◌^◌, ◌<◌, ◌≤◌, [], OnOk, OnErr, IfOk, IfErr, Ok, Err, length};
 ghost use Rattle.fpc_base.specs.Outside.{Rose};
 ghost use Rattle.polarised_formulas.specs.Formula.{IsClosed, IsLkf};
-ghost use Rattle.polarised_formulas.specs.Step.{IsProperStep};
+ghost use Rattle.polarised_formulas.specs.declared.logic.Logic.TheVariants.{Lkf};
 ghost use Rattle.lkf_rules.specs.Derivation.{IsDerivable};
 ghost use Rattle.lkf_rules.specs.Play.{start_of};
-ghost use Rattle.polarised_formulas.specs.declared.logic.Logic.TheVariants.{Lkf};
 ghost use Rattle.explicit_kernel.specs.Progress.{Advances, HasSpelling};
 ghost use Rattle.explicit_kernel.specs.Check.{IsUnderWay, IsPlainRefusal, IsStopped, IsStoppedFrom, IsAnswerTo, IsRight, HasTicked, HasReason, EndsAt, HasTicks};
 
@@ -147,7 +146,6 @@ impl Check {
         requires under_way { IsUnderWay self.old }
         requires part { self.old.part ≡ Part.Steps }
         requires room { self.old.play.fitted < self.old.at }
-        requires step { IsProperStep Lkf step.now }
         ensures ok { OnOk result (IsUnderWay self.new) }
         ensures played { OnOk result (Advances self.old.play.pending self.old.play.fitted self.new.play.pending self.new.play.fitted) }
         ensures at { self.new.at ≡ self.old.at }

@@ -53,6 +53,7 @@ sign_of_word x =
     else (if bytes_eq x (codes "certificate") then Some sign.Certificate
     else None))))))))
 
+-- a sign as what a token says
 abbrev pub said : Option Sign → Lexeme
 said (Some s) = a_sign s
 said None = unused
@@ -78,6 +79,7 @@ pub data Item : Type 0 where
   says : (lexeme : Lexeme) → (at : ℕ) → Item
   fault : (refusal : Refusal) → Item
 
+-- what a token or a fault says
 abbrev pub item_of : Scanned → Item
 item_of (token kind text at) = says (lexeme_of kind text) at
 item_of (refused r) = fault r

@@ -1,5 +1,5 @@
 -- What is read of the tokens of a file, and how it is refused, for any grammar.
-use Rattle.std.specs.Prelude.{◌≡◌, ℕ, List, [], ◌∷◌, ◌++◌}
+use Rattle.std.specs.Prelude.{ℕ, List, [], ◌∷◌, ◌++◌}
 use Rattle.fpc_base.specs.declared.refusal.Code.{Code}
 use Rattle.fpc_base.specs.declared.refusal.Code.TheVariants.{Unexpected}
 use Rattle.fpc_base.specs.declared.refusal.Refusal.{Refusal}

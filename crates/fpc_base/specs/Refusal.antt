@@ -1,6 +1,10 @@
 -- How the reasons of refusals are printed.
 use Rattle.std.specs.Prelude.{ℕ, List, codes}
 use Rattle.fpc_base.specs.declared.refusal.Code.{Code}
+use Rattle.fpc_base.specs.declared.refusal.ParseRefusal.{ParseRefusal}
+use Rattle.fpc_base.specs.declared.refusal.ParseRefusal.TheVariants as parse
+use Rattle.fpc_base.specs.declared.refusal.TokenRefusal.{TokenRefusal}
+use Rattle.fpc_base.specs.declared.refusal.TokenRefusal.TheVariants as token
 use Rattle.fpc_base.specs.declared.refusal.Code.TheVariants.{NotBuilt, BadByte, Unexpected, TooDeep, LongName, ManyArguments, DuplicateFormula, TooLarge, WrongCalculus, ManyVariables}
 
 -- the number of a reason
@@ -28,3 +32,8 @@ code_name DuplicateFormula = codes "DuplicateFormula"
 code_name TooLarge = codes "TooLarge"
 code_name WrongCalculus = codes "WrongCalculus"
 code_name ManyVariables = codes "ManyVariables"
+
+-- why a token was not taken, with its place
+abbrev pub placed : TokenRefusal → ℕ → ParseRefusal
+placed (token.Refused code) at = parse.Refused (record { code = code; at = at })
+placed token.OutOfMemory at = parse.OutOfMemory

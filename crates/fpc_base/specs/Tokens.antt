@@ -39,6 +39,7 @@ is_in_line b = not (nat_eq b 10)
 abbrev pub is_one_of : List (List ℕ) → List ℕ → Bool
 is_one_of texts x = list_any (bytes_eq x) texts
 
+-- all symbols
 abbrev pub symbols : List (List ℕ)
 symbols =
     codes "(" ∷ codes ")" ∷ codes "," ∷ codes "." ∷ codes ":" ∷ codes ":-" ∷ codes ":=" ∷ codes "|" ∷ codes "|+" ∷ codes "|-"
@@ -48,6 +49,7 @@ symbols =
 abbrev pub unit_words : List (List ℕ)
 unit_words = codes "tt" ∷ codes "ff" ∷ []
 
+-- the words that are no names
 abbrev pub keywords : List (List ℕ)
 keywords = codes "all" ∷ codes "some" ∷ codes "tt" ∷ codes "ff" ∷ codes "formula" ∷ codes "certificate" ∷ []
 
@@ -118,13 +120,15 @@ tokens_from at bytes = tokens_behind 0 at (drop at bytes)
 abbrev pub tokens_of : List ℕ → List Scanned
 tokens_of bytes = tokens_from 0 bytes
 
--- the source of a scanner, how much of it was read, and the tokens to come
+-- the bytes that a scanner reads
 abbrev pub source_of : Tokens → List ℕ
 source_of t = t.bytes.now
 
+-- how many of them were read
 abbrev pub place_of : Tokens → ℕ
 place_of t = t.at
 
+-- the tokens to come
 abbrev pub tokens_left : Tokens → List Scanned
 tokens_left t = tokens_from t.at t.bytes.now
 
@@ -162,12 +166,15 @@ abbrev pub is_name_from : (ℕ → Bool) → List ℕ → Bool
 is_name_from begins [] = false
 is_name_from begins (b ∷ bs) = begins b && list_all is_word_byte bs
 
+-- a word of any size
 abbrev pub is_word : List ℕ → Bool
 is_word x = is_name_from is_small x
 
+-- a variable of any size
 abbrev pub is_variable : List ℕ → Bool
 is_variable x = is_name_from is_capital x
 
+-- the units with their signs
 abbrev pub units : List (List ℕ)
 units = codes "tt+" ∷ codes "tt-" ∷ codes "ff+" ∷ codes "ff-" ∷ []
 
@@ -176,6 +183,7 @@ abbrev pub is_long_number : List ℕ → Bool
 is_long_number [] = false
 is_long_number (b ∷ bs) = not (nat_eq b 48) && is_digit b && list_all is_digit bs
 
+-- a number of any size
 abbrev pub is_number : List ℕ → Bool
 is_number x = bytes_eq x (codes "0") || is_long_number x
 

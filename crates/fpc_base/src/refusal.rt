@@ -1,6 +1,6 @@
 //! What is told of bad input.
 ghost use Rattle.std.specs.Prelude.{◌≡◌, Some};
-ghost use Rattle.fpc_base.specs.Refusal.{code_number, code_name};
+ghost use Rattle.fpc_base.specs.Refusal.{code_number, code_name, placed};
 
 use crate::outside::OutOfMemory;
 use std::alloc::{AllocError, AllocFailed};
@@ -132,6 +132,18 @@ pub enum ReadRefusal {
 pub enum TokenRefusal {
     Refused(Code),
     OutOfMemory,
+}
+
+impl TokenRefusal {
+    /// The refusal of a file, with the place of the token.
+    pub fn placed(self, at: usize) -> ParseRefusal
+        ensures { result ≡ placed self at }
+    {
+        match self {
+            TokenRefusal::Refused(code) => ParseRefusal::Refused(Refusal { code, at }),
+            TokenRefusal::OutOfMemory => ParseRefusal::OutOfMemory,
+        }
+    }
 }
 
 impl From<OutOfMemory> for TokenRefusal {

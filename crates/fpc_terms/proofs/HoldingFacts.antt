@@ -1,20 +1,19 @@
 -- How a reader that holds a state of the machine takes a token.
-use Rattle.std.specs.Prelude.{◌≡◌, ℕ, suc, ◌<◌, Bool, true, false, List, [], ◌∷◌, map, length, Option, Some, None, Result, Ok, Err, nat_eq, refl, is_some, if◌then◌else◌}
+use Rattle.std.specs.Prelude.{◌≡◌, ℕ, suc, ◌<◌, Bool, true, false, List, [], ◌∷◌, map, length, None, Result, Ok, Err, nat_eq, refl, if◌then◌else◌}
 use Rattle.std.proofs.Common.{ap, sym, ◌∙◌, arith, subst}
 use Rattle.std.proofs.lemmas.Bool.Decides.{nat_tests}
-use Rattle.fpc_base.specs.declared.refusal.Code.{Code}
-use Rattle.fpc_base.specs.declared.refusal.Code.TheVariants.{Unexpected, ManyArguments}
+use Rattle.fpc_base.specs.declared.refusal.Code.TheVariants.{ManyArguments}
 use Rattle.fpc_base.specs.declared.refusal.TokenRefusal.{TokenRefusal}
 use Rattle.fpc_base.specs.declared.tokens.lexeme.Sign.TheVariants.{OpenParenthesis, CloseParenthesis, Comma}
 use Rattle.fpc_base.specs.Lexeme.{Lexeme, a_name, a_variable, a_sign}
 use Rattle.fpc_terms.specs.Term.{Term, Args, app, no_args, arg}
-use Rattle.fpc_terms.specs.Partial.{Frame, Partial, nothing, with_term, opened, closed, innermost, turned, args_onto, arguments_of, only_term}
+use Rattle.fpc_terms.specs.Partial.{with_term, opened, closed, innermost, turned, args_onto, arguments_of}
 use Rattle.fpc_terms.specs.Written.{WrittenTerm, WrittenArgs, variable_word, application, no_words, words, term_meant, args_meant}
 use Rattle.fpc_terms.specs.Spot.{Spot, alone, in_arguments, in_term}
-use Rattle.fpc_terms.specs.Machine.{TermState, wants, named, has, ended, stuck, step, limited, within, behind, args_with, is_full, whole_of, is_final}
+use Rattle.fpc_terms.specs.Machine.{TermState, wants, named, has, ended, stuck, step, limited, within, behind, args_with, is_full}
 use Rattle.fpc_terms.specs.declared.reader.Mode.TheVariants as mode
 use Rattle.fpc_terms.specs.declared.reader.TermReader.{TermReader}
-use Rattle.fpc_terms.specs.Holding.{base_at, frames_at, built, mode_of, is_alone_at, HasRoomAt, Holds, Takes}
+use Rattle.fpc_terms.specs.Holding.{base_at, frames_at, HasRoomAt, Holds, Takes}
 
 length-map : {A B : Type 0} (f : A → B) (xs : List A) → length (map f xs) ≡ length xs
 length-map f [] = refl
@@ -44,9 +43,13 @@ module _ (number : List ℕ → ℕ) (leaf : List ℕ → Term) where
     -- a variable
     pub takes-variable : (s : TermState) (text : List ℕ) (old new : TermReader) (t : Term) → Holds number leaf s old → old.mode ≡ mode.Wants → known text ≡ true → leaf text ≡ t
         → new ≡ record old { mode = mode.Has; terms = with_term t old.terms.base old.terms.frames } → Takes (Ok tt) number leaf (limited known None [] s (a_variable text)) new
-    takes-variable (wants spot) text old new t h m k l e = (has (variable_word text) spot,
-      (ap (λ (b : Bool). within (is_full (if b then has (variable_word text) spot else stuck)) false (if b then has (variable_word text) spot else stuck)) k,
-       rw e (record { mode = refl; is_alone = h.is_alone; terms = rw (h.terms, l) refl; room = h.room })))
+    takes-variable (wants spot) text old new t h m k l e = (
+      has (variable_word text) spot,
+      (
+        ap (λ (b : Bool). within (is_full (if b then has (variable_word text) spot else stuck)) false (if b then has (variable_word text) spot else stuck)) k,
+        rw e (record { mode = refl; is_alone = h.is_alone; terms = rw (h.terms, l) refl; room = h.room }),
+      ),
+    )
     takes-variable (named x spot) text old new t h m k l e = let n : ⊥ = cc in absurd n
     takes-variable (has u spot) text old new t h m k l e = let n : ⊥ = cc in absurd n
     takes-variable (ended args) text old new t h m k l e = let n : ⊥ = cc in absurd n
@@ -113,14 +116,22 @@ module _ (number : List ℕ → ℕ) (leaf : List ℕ → Term) where
     takes-comma (has u alone) old new h m a l e = absurd (a h.is_alone (rw h.terms refl))
     takes-comma (has u (in_arguments ds)) old new h m a l e =
         let f : suc (length (map (term_meant number leaf) ds)) < 255 = rw h.terms at l in
-        let g : suc (length ds) < 255 = rw (length-map (term_meant number leaf) ds) at f in
-        (wants (in_arguments (u ∷ ds)), (comma-next (wants (in_arguments (u ∷ ds))) (suc (length ds)) refl g,
-          rw e (record { mode = refl; is_alone = h.is_alone; terms = h.terms; room = g })))
+        let g : suc (length ds) < 255 = rw (length-map (term_meant number leaf) ds) at f in (
+          wants (in_arguments (u ∷ ds)),
+          (
+            comma-next (wants (in_arguments (u ∷ ds))) (suc (length ds)) refl g,
+            rw e (record { mode = refl; is_alone = h.is_alone; terms = h.terms; room = g }),
+          ),
+        )
     takes-comma (has u (in_term x ds spot)) old new h m a l e =
         let f : suc (length (map (term_meant number leaf) ds)) < 255 = rw h.terms at l in
-        let g : suc (length ds) < 255 = rw (length-map (term_meant number leaf) ds) at f in
-        (wants (in_term x (u ∷ ds) spot), (comma-next (wants (in_term x (u ∷ ds) spot)) (suc (length ds)) refl g,
-          rw e (record { mode = refl; is_alone = h.is_alone; terms = h.terms; room = (g, h.room.1) })))
+        let g : suc (length ds) < 255 = rw (length-map (term_meant number leaf) ds) at f in (
+          wants (in_term x (u ∷ ds) spot),
+          (
+            comma-next (wants (in_term x (u ∷ ds) spot)) (suc (length ds)) refl g,
+            rw e (record { mode = refl; is_alone = h.is_alone; terms = h.terms; room = (g, h.room.1) }),
+          ),
+        )
     takes-comma (wants spot) old new h m a l e = let n : ⊥ = cc in absurd n
     takes-comma (named x spot) old new h m a l e = let n : ⊥ = cc in absurd n
     takes-comma (ended args) old new h m a l e = let n : ⊥ = cc in absurd n
@@ -135,10 +146,10 @@ module _ (number : List ℕ → ℕ) (leaf : List ℕ → Term) where
     refuses-comma (has u alone) old h m a l = absurd (a h.is_alone (rw h.terms refl))
     refuses-comma (has u (in_arguments ds)) old h m a l =
         comma-full (wants (in_arguments (u ∷ ds))) (length ds) refl h.room
-          (λ g. l (rw h.terms (let k : suc (length (map (term_meant number leaf) ds)) < 255 = rw (length-map (term_meant number leaf) ds) g in k))) false
+        (λ g. l (rw h.terms (let k : suc (length (map (term_meant number leaf) ds)) < 255 = rw (length-map (term_meant number leaf) ds) g in k))) false
     refuses-comma (has u (in_term x ds spot)) old h m a l =
         comma-full (wants (in_term x (u ∷ ds) spot)) (length ds) refl h.room.0
-          (λ g. l (rw h.terms (let k : suc (length (map (term_meant number leaf) ds)) < 255 = rw (length-map (term_meant number leaf) ds) g in k))) false
+        (λ g. l (rw h.terms (let k : suc (length (map (term_meant number leaf) ds)) < 255 = rw (length-map (term_meant number leaf) ds) g in k))) false
     refuses-comma (wants spot) old h m a l = let n : ⊥ = cc in absurd n
     refuses-comma (named x spot) old h m a l = let n : ⊥ = cc in absurd n
     refuses-comma (ended args) old h m a l = let n : ⊥ = cc in absurd n
@@ -149,9 +160,13 @@ module _ (number : List ℕ → ℕ) (leaf : List ℕ → Term) where
         → new ≡ record old { terms = closed old.terms.base old.terms.frames } → Takes (Ok tt) number leaf (limited known None [] s (a_sign CloseParenthesis)) new
     takes-close (has u alone) old new h m o e = absurd (o (rw h.terms refl))
     takes-close (has u (in_arguments ds)) old new h m o e = absurd (o (rw h.terms refl))
-    takes-close (has u (in_term x ds spot)) old new h m o e =
-        (has (application x (args_with ds (words u no_words))) spot, (refl,
-          rw e (record { mode = h.mode; is_alone = h.is_alone; terms = rw h.terms (rw (args_meant-args_with number leaf ds (words u no_words)) refl); room = h.room.1 })))
+    takes-close (has u (in_term x ds spot)) old new h m o e = (
+      has (application x (args_with ds (words u no_words))) spot,
+      (
+        refl,
+        rw e (record { mode = h.mode; is_alone = h.is_alone; terms = rw h.terms (rw (args_meant-args_with number leaf ds (words u no_words)) refl); room = h.room.1 }),
+      ),
+    )
     takes-close (wants spot) old new h m o e = let n : ⊥ = cc in absurd n
     takes-close (named x spot) old new h m o e = let n : ⊥ = cc in absurd n
     takes-close (ended args) old new h m o e = let n : ⊥ = cc in absurd n
@@ -164,9 +179,13 @@ module _ (number : List ℕ → ℕ) (leaf : List ℕ → Term) where
     pub takes-end : (s : TermState) (old new : TermReader) → Holds number leaf s old → old.mode ≡ mode.Has → old.terms.frames ≡ [] → (old.is_alone ≡ true → ⊥)
         → new ≡ record old { mode = mode.Ended } → Takes (Ok tt) number leaf (limited known None [] s (a_sign CloseParenthesis)) new
     takes-end (has u alone) old new h m o a e = absurd (a h.is_alone)
-    takes-end (has u (in_arguments ds)) old new h m o a e =
-        (ended (args_with ds (words u no_words)), (refl,
-          rw e (record { mode = refl; is_alone = h.is_alone; terms = rw h.terms (rw (args_meant-args_with number leaf ds (words u no_words), turned-args_onto) refl); room = tt })))
+    takes-end (has u (in_arguments ds)) old new h m o a e = (
+      ended (args_with ds (words u no_words)),
+      (
+        refl,
+        rw e (record { mode = refl; is_alone = h.is_alone; terms = rw h.terms (rw (args_meant-args_with number leaf ds (words u no_words), turned-args_onto) refl); room = tt }),
+      ),
+    )
     takes-end (has u (in_term x ds spot)) old new h m o a e = let n : ⊥ = not-open _ _ (rw h.terms at o) in absurd n
     takes-end (wants spot) old new h m o a e = let n : ⊥ = cc in absurd n
     takes-end (named x spot) old new h m o a e = let n : ⊥ = cc in absurd n

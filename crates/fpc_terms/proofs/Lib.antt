@@ -8,4 +8,6 @@ pub mod TermReading
 pub mod BuilderFacts
 pub mod HoldingFacts
 pub mod PrintFacts
+pub mod ReadFacts
 pub mod TokenNames
+pub mod NamesBelow

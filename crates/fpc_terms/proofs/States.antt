@@ -1,10 +1,9 @@
 -- What a state of the machine has read.
-use Rattle.std.specs.Prelude.{◌≡◌, ℕ, Bool, List, [], ◌∷◌, ◌++◌}
-use Rattle.fpc_base.specs.declared.tokens.lexeme.Sign.TheVariants.{OpenParenthesis, CloseParenthesis, Comma}
-use Rattle.fpc_base.specs.Lexeme.{Lexeme, a_name, a_variable, a_sign}
-use Rattle.fpc_terms.specs.Written.{WrittenTerm, WrittenArgs, variable_word, application, no_words, words, term_tokens, args_tokens, more_tokens, IsKnown, AreKnown}
-use Rattle.fpc_terms.specs.Spot.{Spot, alone, in_arguments, in_term, tokens_to, done_at, done_tokens, AllKnown, IsSpotKnown, IsAlone}
-use Rattle.fpc_terms.specs.Machine.{TermState, wants, named, has, ended, stuck, step, run, behind, args_with, IsLive}
+use Rattle.std.specs.Prelude.{◌≡◌, ℕ, Bool, List, ◌∷◌}
+use Rattle.fpc_base.specs.Lexeme.{Lexeme, a_name}
+use Rattle.fpc_terms.specs.Written.{WrittenArgs, no_words, words, term_tokens, args_tokens, IsKnown, AreKnown}
+use Rattle.fpc_terms.specs.Spot.{Spot, alone, in_arguments, in_term, tokens_to, IsSpotKnown, IsAlone}
+use Rattle.fpc_terms.specs.Machine.{TermState, wants, named, has, ended, stuck}
 
 -- the tokens that led to the state, before other tokens
 abbrev pub tokens_before : TermState → List Lexeme → List Lexeme

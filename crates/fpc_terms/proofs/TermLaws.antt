@@ -1,12 +1,12 @@
 -- The machine of terms reads exactly their tokens.
 use Rattle.std.specs.Prelude.{◌≡◌, ℕ, Bool, true, false, if◌then◌else◌, List, [], ◌∷◌, ◌++◌, refl, codes}
-use Rattle.std.proofs.Common.{ap, sym, ◌∙◌}
+use Rattle.std.proofs.Common.{ap, ◌∙◌}
 use Rattle.fpc_base.specs.declared.tokens.lexeme.Sign.TheVariants.{OpenParenthesis, CloseParenthesis, Comma}
 use Rattle.fpc_base.specs.Lexeme.{Lexeme, a_name, a_variable, a_sign}
 use Rattle.fpc_terms.specs.Written.{WrittenTerm, WrittenArgs, variable_word, application, no_words, words, term_tokens, args_tokens, more_tokens, IsKnown, AreKnown}
-use Rattle.fpc_terms.specs.Spot.{Spot, alone, in_arguments, in_term, tokens_to, done_at, done_tokens, AllKnown, IsSpotKnown, IsAlone}
+use Rattle.fpc_terms.specs.Spot.{Spot, alone, in_arguments, in_term, tokens_to, done_tokens, AllKnown, IsSpotKnown}
 use Rattle.fpc_terms.specs.Machine.{TermState, wants, named, has, ended, stuck, step, run, behind, args_with, IsLive}
-use Rattle.fpc_terms.proofs.States.{tokens_before, IsStateKnown, AreSome, IsArgumentSpot, IsArgumentState, IsAloneState, Follows}
+use Rattle.fpc_terms.proofs.States.{IsStateKnown, AreSome, IsArgumentSpot, IsArgumentState, Follows}
 
 -- the tokens of arguments in order are those of the arguments done and of the one behind them
 pub args_tokens-args_with : (ds : List WrittenTerm) (u : WrittenTerm) (ts : WrittenArgs) (rest : List Lexeme)

@@ -1,19 +1,19 @@
 -- What a reader of one term learns from the machine.
-use Rattle.std.specs.Prelude.{◌≡◌, ℕ, ◌≤◌, Bool, true, false, not, ◌&&◌, if◌then◌else◌, List, [], ◌∷◌, ◌++◌, length, Option, Some, None, Result, Ok, Err, nat_eq, nat_le, refl, codes}
+use Rattle.std.specs.Prelude.{◌≡◌, ℕ, ◌≤◌, Bool, true, false, not, if◌then◌else◌, List, [], ◌∷◌, ◌++◌, length, Option, Some, None, Ok, Err, nat_eq, nat_le, refl, codes}
 use Rattle.std.proofs.Common.{ap, sym, ◌∙◌, ◌⊎◌, inl, inr, arith}
 use Rattle.std.proofs.lemmas.Bool.{and_parts}
 use Rattle.std.proofs.lemmas.Bool.Decides.{nat_tests}
 use Rattle.fpc_base.specs.declared.refusal.Code.{Code}
 use Rattle.fpc_base.specs.declared.refusal.Code.TheVariants.{Unexpected, ManyArguments, ManyVariables}
 use Rattle.fpc_base.specs.declared.refusal.Refusal.{Refusal}
-use Rattle.fpc_base.specs.declared.tokens.lexeme.Sign.TheVariants.{OpenParenthesis, CloseParenthesis, Comma}
+use Rattle.fpc_base.specs.declared.tokens.lexeme.Sign.TheVariants.{OpenParenthesis, CloseParenthesis}
 use Rattle.fpc_base.specs.Lexeme.{Lexeme, a_name, a_variable, a_sign, Item, says, fault}
 use Rattle.fpc_base.specs.Reading.{Begins, IsTaken, IsFinal, ReadsFront, RefusesFront}
 use Rattle.fpc_base.specs.Reading as reading
 use Rattle.fpc_base.specs.Tokens.{is_one_of}
-use Rattle.fpc_terms.specs.Written.{WrittenTerm, WrittenArgs, variable_word, application, no_words, words, term_tokens, args_tokens, more_tokens, IsKnown, AreKnown, IsTerm, variables_in}
-use Rattle.fpc_terms.specs.Spot.{Spot, alone, in_arguments, in_term, tokens_to, done_at, done_tokens, AllKnown, IsSpotKnown, IsAlone, LeadsBehind, TermLimits, many_arguments, many_variables}
-use Rattle.fpc_terms.specs.Machine.{TermState, wants, named, has, ended, stuck, step, run, behind, args_with, IsLive, is_full, whole_of, is_too_many, within, limited, is_final, is_open}
+use Rattle.fpc_terms.specs.Written.{WrittenTerm, variable_word, application, no_words, words, term_tokens, more_tokens, IsKnown, IsTerm, variables_in}
+use Rattle.fpc_terms.specs.Spot.{Spot, alone, in_arguments, in_term, tokens_to, done_at, done_tokens, IsSpotKnown, IsAlone, LeadsBehind, TermLimits, many_arguments, many_variables}
+use Rattle.fpc_terms.specs.Machine.{TermState, wants, named, has, ended, stuck, step, run, args_with, IsLive, is_full, whole_of, is_too_many, within, limited, is_final, is_open}
 use Rattle.fpc_terms.proofs.States.{tokens_before, IsStateKnown, IsAloneState, Follows}
 use Rattle.fpc_terms.proofs.TermLaws.{step-follows, run-append, live-run, run-term, run-more, run-done, more-behind}
 
@@ -225,22 +225,23 @@ module _ (known : List ℕ → Bool) (most : Option ℕ) (earlier : List (List �
       → IsTaken (IsTerm known) (TermLimits known most earlier) before c
   taken before c s t e l =
       let w : (step known s c ≡ t) × (IsLive (step known s c) × ((is_full (step known s c) ≡ false) × (is_too_many most (variables_in before earlier) c ≡ false))) =
-          within-ok (is_full (step known s c)) (is_too_many most (variables_in before earlier) c) (step known s c) t l in
+      within-ok (is_full (step known s c)) (is_too_many most (variables_in before earlier) c) (step known s c) t l in
       record { begins = live-begins (before ++ c ∷ []) (rw (run-one before c s e) w.1.0); free = no-limit before c s e w.1.1.0 w.1.1.1 }
 
   pub IsAt-taken : (n : ℕ) (items rest : List Item) (s t : TermState) (vars : List (List ℕ)) (c : Lexeme) (at : ℕ) → IsAt n items (says c at ∷ rest) s vars
       → limited known most vars s c ≡ Ok t → IsAt n items rest t (variables_in (c ∷ []) vars)
   IsAt-taken n items rest s t vars c at i l =
       let k : IsTaken (IsTerm known) (TermLimits known most earlier) i.before c =
-          taken i.before c s t i.ran (ap (λ (v : List (List ℕ)). limited known most v s c) i.variables ∙ l) in
+      taken i.before c s t i.ran (ap (λ (v : List (List ℕ)). limited known most v s c) i.variables ∙ l) in
       let w : (step known s c ≡ t) × (IsLive (step known s c) × ((is_full (step known s c) ≡ false) × (is_too_many most vars c ≡ false))) =
-          within-ok (is_full (step known s c)) (is_too_many most vars c) (step known s c) t l in
+      within-ok (is_full (step known s c)) (is_too_many most vars c) (step known s c) t l in
       record {
         before = i.before ++ c ∷ [];
         ran = run-one i.before c s i.ran ∙ w.0;
         variables = variables_in-one i.before c earlier ∙ ap (variables_in (c ∷ [])) i.variables;
         refused = λ r h. i.refused r (reading.RefusesFront.later k h);
-        read = λ v left h. i.read v left (reading.ReadsFront.later k h) }
+        read = λ v left h. i.read v left (reading.ReadsFront.later k h);
+      }
 
   -- a token that is refused, where the tokens before are no whole term or it goes on behind them
   refused-here : (n : ℕ) (before : List Lexeme) (rest : List Item) (c : Lexeme) (at : ℕ) (code : Code) (s : TermState) → run known (wants alone) before ≡ s → (whole_of s ≡ None) ⊎ (IsLive (step known s c))
@@ -258,8 +259,8 @@ module _ (known : List ℕ → Bool) (most : Option ℕ) (earlier : List (List �
       → RefusesFront (IsTerm known) (TermLimits known most earlier) n [] items (record { code = code; at = at })
   IsAt-refused n items rest s vars c at code i o l =
       i.refused (record { code = code; at = at }) (refused-here n i.before rest c at code s i.ran o
-        (within-err s (variables_in i.before earlier) c (is_full (step known s c)) (is_too_many most (variables_in i.before earlier) c) (step known s c) code refl refl refl
-          (ap (λ (v : List (List ℕ)). limited known most v s c) i.variables ∙ l)))
+      (within-err s (variables_in i.before earlier) c (is_full (step known s c)) (is_too_many most (variables_in i.before earlier) c) (step known s c) code refl refl refl
+      (ap (λ (v : List (List ℕ)). limited known most v s c) i.variables ∙ l)))
 
   final-is : (ts : List Lexeme) (s : TermState) → run known (wants alone) ts ≡ s → is_final s ≡ true → IsFinal (IsTerm known) (TermLimits known most earlier) ts
   final-is ts (has u alone) e f c b = rw (run-one ts c (has u alone) e) at (begins-live (ts ++ c ∷ []) b)
@@ -301,4 +302,11 @@ module _ (known : List ℕ → Bool) (most : Option ℕ) (earlier : List (List �
       → is_open c ≡ false → ReadsFront (IsTerm known) (TermLimits known most earlier) [] items w (says c at ∷ rest)
   IsAt-ends n items rest s vars w c at i h o =
       i.read w (says c at ∷ rest) (reading.ReadsFront.ends (whole-before i.before s w i.ran h)
-        (λ b. rw (run-one i.before c s i.ran ∙ closed-behind s w c h o) at (begins-live (i.before ++ c ∷ []) b)))
+      (λ b. rw (run-one i.before c s i.ran ∙ closed-behind s w c h o) at (begins-live (i.before ++ c ∷ []) b)))
+
+  -- the variables so far are those of the term
+  pub IsAt-variables : (n : ℕ) (items rest : List Item) (s : TermState) (vars : List (List ℕ)) (w : WrittenTerm) → IsAt n items rest s vars → whole_of s ≡ Some w
+      → vars ≡ variables_in (term_tokens w []) earlier
+  IsAt-variables n items rest s vars w i h =
+      let t : IsTerm known i.before w = whole-before i.before s w i.ran h in
+      sym i.variables ∙ ap (λ (ts : List Lexeme). variables_in ts earlier) t.spelled

@@ -1,5 +1,5 @@
 -- How the fields of a reader stand for a state of the machine of terms.
-use Rattle.std.specs.Prelude.{◌≡◌, ℕ, ◌<◌, Bool, true, false, List, [], ◌∷◌, map, length, Result, Ok, Err, is_some}
+use Rattle.std.specs.Prelude.{◌≡◌, ℕ, ◌<◌, Bool, true, false, List, [], ◌∷◌, map, length, Result, Ok, Err}
 use Rattle.fpc_base.specs.declared.refusal.Code.{Code}
 use Rattle.fpc_base.specs.declared.refusal.TokenRefusal.{TokenRefusal}
 use Rattle.fpc_base.specs.declared.refusal.TokenRefusal.TheVariants.{Refused, OutOfMemory}
@@ -7,7 +7,7 @@ use Rattle.fpc_base.specs.declared.tokens.lexeme.Lexeme as code
 use Rattle.fpc_terms.specs.Name.{IsName}
 use Rattle.fpc_terms.specs.Term.{Term}
 use Rattle.fpc_terms.specs.Partial.{Frame, Partial, nothing, with_term, turned}
-use Rattle.fpc_terms.specs.Written.{WrittenTerm, term_meant, args_meant}
+use Rattle.fpc_terms.specs.Written.{term_meant, args_meant}
 use Rattle.fpc_terms.specs.Spot.{Spot, alone, in_arguments, in_term}
 use Rattle.fpc_terms.specs.Machine.{TermState, wants, named, has, ended, stuck}
 use Rattle.fpc_terms.specs.declared.reader.Mode.{Mode}
@@ -34,6 +34,7 @@ built number leaf (has u s) = with_term (term_meant number leaf u) (base_at numb
 built number leaf (ended args) = record { base = turned (args_meant number leaf args) []; frames = [] }
 built number leaf stuck = nothing
 
+-- what comes next in a state, as the reader keeps it
 abbrev pub mode_of : (List ℕ → ℕ) → TermState → Mode
 mode_of number (wants s) = mode.Wants
 mode_of number (named x s) = mode.Named (number x)
@@ -46,6 +47,7 @@ is_alone_at alone = true
 is_alone_at (in_arguments done) = false
 is_alone_at (in_term x done spot) = is_alone_at spot
 
+-- the state is that of a term by itself
 abbrev pub is_alone_in : TermState → Bool
 is_alone_in (wants s) = is_alone_at s
 is_alone_in (named x s) = is_alone_at s
@@ -58,6 +60,7 @@ HasRoomAt alone = Unit {0}
 HasRoomAt (in_arguments done) = length done < 255
 HasRoomAt (in_term x done spot) = (length done < 255) × HasRoomAt spot
 
+-- one more argument may come in the state
 abbrev pub HasRoomIn : TermState → Type 0
 HasRoomIn (wants s) = HasRoomAt s
 HasRoomIn (named x s) = HasRoomAt s
@@ -83,6 +86,7 @@ abbrev pub IsNamed : code.Lexeme → Type 0
 IsNamed (code.TheVariants.Name x) = IsName x.now
 IsNamed _ = Unit {0}
 
+-- it is a variable
 abbrev pub is_variable : code.Lexeme → Bool
 is_variable (code.TheVariants.Variable x) = true
 is_variable _ = false

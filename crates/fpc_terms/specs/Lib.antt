@@ -8,3 +8,4 @@ pub mod Machine
 pub mod Partial
 pub mod Holding
 pub mod Printing
+pub mod ReadTerm

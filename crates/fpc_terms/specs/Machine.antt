@@ -1,5 +1,5 @@
 -- A machine that reads the tokens of a term, one after another, and keeps all that it read.
-use Rattle.std.specs.Prelude.{ℕ, Bool, true, false, not, ◌&&◌, if◌then◌else◌, List, [], ◌∷◌, length, Option, Some, None, Result, Ok, Err, nat_eq, nat_le}
+use Rattle.std.specs.Prelude.{ℕ, Bool, true, false, not, ◌&&◌, if◌then◌else◌, List, [], ◌∷◌, length, Option, Some, None, Result, Ok, Err, nat_eq, nat_le, is_some}
 use Rattle.fpc_base.specs.declared.refusal.Code.{Code}
 use Rattle.fpc_base.specs.declared.refusal.Code.TheVariants.{Unexpected, ManyArguments, ManyVariables}
 use Rattle.fpc_base.specs.Tokens.{is_one_of}
@@ -8,7 +8,8 @@ use Rattle.fpc_base.specs.Lexeme.{Lexeme, a_name, a_variable, a_sign}
 use Rattle.fpc_terms.specs.Written.{WrittenTerm, WrittenArgs, variable_word, application, no_words, words}
 use Rattle.fpc_terms.specs.Spot.{Spot, alone, in_arguments, in_term, done_at}
 
--- A term is to come, its name was read, or it was read and what is behind it is to come; or the arguments of the atom are whole.
+-- Where the reading stands: a term is to come (`wants`); its name was read (`named`); it was read, and what stands behind it is to come (`has`);
+-- the arguments of the atom are whole (`ended`); or no term begins with the tokens (`stuck`).
 pub data TermState : Type 0 where
   wants : Spot → TermState
   named : (text : List ℕ) → Spot → TermState
@@ -48,6 +49,7 @@ abbrev pub is_full : TermState → Bool
 is_full (wants s) = nat_eq (length (done_at s)) 255
 is_full _ = false
 
+-- a term begins with the tokens so far
 abbrev pub IsLive : TermState → Type 0
 IsLive stuck = ⊥
 IsLive _ = Unit {0}
@@ -79,6 +81,11 @@ abbrev pub is_final : TermState → Bool
 is_final (has u alone) = true
 is_final _ = false
 
+-- it is an open parenthesis
 abbrev pub is_open : Lexeme → Bool
 is_open (a_sign OpenParenthesis) = true
 is_open _ = false
+
+-- a whole term doesn't go on with the token
+abbrev pub ends_before : TermState → Lexeme → Bool
+ends_before s c = is_some (whole_of s) && not (is_open c)

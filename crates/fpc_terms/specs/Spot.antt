@@ -1,13 +1,13 @@
 -- The way into a term: what stands before an argument that is still to come.
-use Rattle.std.specs.Prelude.{◌≡◌, ℕ, ◌≤◌, Bool, true, false, if◌then◌else◌, List, [], ◌∷◌, ◌++◌, length, Option, Some, None, nat_eq}
+use Rattle.std.specs.Prelude.{◌≡◌, ℕ, ◌≤◌, Bool, false, List, [], ◌∷◌, ◌++◌, length, Option, Some}
 use Rattle.fpc_base.specs.declared.refusal.Code.{Code}
 use Rattle.fpc_base.specs.declared.refusal.Code.TheVariants.{ManyArguments, ManyVariables}
-use Rattle.fpc_base.specs.declared.tokens.lexeme.Sign.TheVariants.{OpenParenthesis, CloseParenthesis, Comma}
+use Rattle.fpc_base.specs.declared.tokens.lexeme.Sign.TheVariants.{OpenParenthesis, Comma}
 use Rattle.fpc_base.specs.Lexeme.{Lexeme, a_name, a_variable, a_sign}
 use Rattle.fpc_base.specs.Tokens.{is_one_of}
-use Rattle.fpc_terms.specs.Written.{WrittenTerm, WrittenArgs, variable_word, application, no_words, words, term_tokens, args_tokens, more_tokens, IsKnown, AreKnown, variables_in}
+use Rattle.fpc_terms.specs.Written.{WrittenTerm, term_tokens, IsKnown, variables_in}
 
--- Where a term stands: by itself, as an argument of what the reader calls its own (an atom), or as an argument of a name.
+-- Where a term stands: by itself, as an argument of an atom, or as an argument of a name in a term.
 -- The arguments before it are kept with the last one first.
 pub data Spot : Type 0 where
   alone : Spot
@@ -36,6 +36,7 @@ abbrev pub AllKnown : (List ℕ → Bool) → List WrittenTerm → Type 0
 AllKnown known [] = Unit {0}
 AllKnown known (t ∷ ts) = IsKnown known t × AllKnown known ts
 
+-- each variable of the arguments before it is known
 abbrev pub IsSpotKnown : (List ℕ → Bool) → Spot → Type 0
 IsSpotKnown known alone = Unit {0}
 IsSpotKnown known (in_arguments done) = AllKnown known done

@@ -19,6 +19,7 @@ mutual
     no_args : Args
     arg : (first : Term) → (rest : Args) → Args
 
+-- how many arguments there are
 abbrev pub count : Args → ℕ
 count no_args = 0
 count (arg t ts) = suc (count ts)
@@ -39,11 +40,13 @@ abbrev mutual
 abbrev pub cells_of : Term → List Cell
 cells_of t = cells_before t []
 
+-- the first n of the arguments
 abbrev pub first_args : ℕ → Args → Args
 first_args zero ts = no_args
 first_args (suc n) no_args = no_args
 first_args (suc n) (arg t ts) = arg t (first_args n ts)
 
+-- the arguments behind the first n
 abbrev pub later_args : ℕ → Args → Args
 later_args zero ts = ts
 later_args (suc n) no_args = no_args
@@ -61,6 +64,7 @@ abbrev pub terms_from : List Cell → Args → Args
 terms_from [] us = us
 terms_from (c ∷ cs) us = cell_on c (terms_from cs us)
 
+-- the first of the arguments; some term where there is none
 abbrev pub first_term : Args → Term
 first_term no_args = bound 0
 first_term (arg t ts) = t
@@ -73,19 +77,23 @@ term_of cs = first_term (terms_from cs no_args)
 abbrev pub IsOneTerm : List Cell → Type 0
 IsOneTerm cs = cells_of (term_of cs) ≡ cs
 
+-- arguments before others
 abbrev pub joined : Args → Args → Args
 joined no_args us = us
 joined (arg t ts) us = arg t (joined ts us)
 
+-- of joined arguments the first are the first list
 pub first_args-joined : (ts us : Args) → first_args (count ts) (joined ts us) ≡ ts
 first_args-joined no_args us = refl
 first_args-joined (arg t ts) us = ap (arg t) (first_args-joined ts us)
 
+-- and the later ones the second
 pub later_args-joined : (ts us : Args) → later_args (count ts) (joined ts us) ≡ us
 later_args-joined no_args us = refl
 later_args-joined (arg t ts) us = later_args-joined ts us
 
 mutual
+  -- the cells of a term spell it, before the terms that follow
   pub terms_from-cells_before : (t : Term) (cs : List Cell) (us : Args) → terms_from (cells_before t cs) us ≡ arg t (terms_from cs us)
   terms_from-cells_before (eigen n) cs us = refl
   terms_from-cells_before (bound n) cs us = refl
@@ -96,6 +104,7 @@ mutual
   terms_from-all_before no_args cs us = refl
   terms_from-all_before (arg t ts) cs us = rw (terms_from-cells_before t (all_before ts cs) us, terms_from-all_before ts cs us)
 
+-- a term is spelled by its cells
 pub term_of-cells_of : (t : Term) → term_of (cells_of t) ≡ t
 term_of-cells_of t = rw (terms_from-cells_before t [] no_args)
 

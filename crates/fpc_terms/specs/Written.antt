@@ -1,7 +1,5 @@
 -- Terms as they are written, their tokens, and the terms that they stand for.
-use Rattle.std.specs.Prelude.{◌≡◌, ℕ, ◌≤◌, Bool, true, false, if◌then◌else◌, List, [], ◌∷◌, ◌++◌, length, Option, Some}
-use Rattle.fpc_base.specs.declared.refusal.Code.{Code}
-use Rattle.fpc_base.specs.declared.refusal.Code.TheVariants.{ManyArguments, ManyVariables}
+use Rattle.std.specs.Prelude.{◌≡◌, ℕ, Bool, true, if◌then◌else◌, List, [], ◌∷◌, ◌++◌}
 use Rattle.fpc_base.specs.declared.tokens.lexeme.Sign.TheVariants.{OpenParenthesis, CloseParenthesis, Comma}
 use Rattle.fpc_base.specs.Lexeme.{Lexeme, a_name, a_variable, a_sign}
 use Rattle.fpc_base.specs.Tokens.{is_one_of}
@@ -13,6 +11,7 @@ mutual
     variable_word : (text : List ℕ) → WrittenTerm
     application : (text : List ℕ) → (args : WrittenArgs) → WrittenTerm
 
+  -- the arguments of a name, in order
   pub data WrittenArgs : Type 0 where
     no_words : WrittenArgs
     words : (first : WrittenTerm) → (rest : WrittenArgs) → WrittenArgs

@@ -5,10 +5,10 @@ ghost use Rattle.fpc_terms.specs.declared.cell.Cell.{Cell};
 ghost use Rattle.fpc_terms.specs.declared.cell.Cell.TheVariants.{App};
 ghost use Rattle.fpc_terms.specs.Partial.{Frame, Partial, arguments_of, nothing, with_term, opened, closed, innermost, only_term, flat, leaf_term, IsBefore, IsPartial, StandsAt};
 
-use fpc_base::outside::OutOfMemory;
 use crate::cell::Cell;
 use crate::name::NameId;
 use crate::term::TermBuf;
+use fpc_base::outside::OutOfMemory;
 use std::alloc::Global;
 use std::marker::Model;
 

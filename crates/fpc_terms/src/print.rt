@@ -52,7 +52,7 @@ pub fn push_number(
     Ok(())
 }
 
-/// Puts a name behind other bytes. On a refusal `out` is as before.
+/// Puts a name behind other bytes, which stay at the front in any case.
 #[tactic(auto, using(crate::proofs::PrintFacts::print_facts))]
 pub fn push_name(names: &Names, name: NameId, out: &mut Vec<u8>) -> Result<(), OutOfMemory>
     requires { name < length names.now }

@@ -10,15 +10,15 @@ ghost use Rattle.fpc_terms.specs.Spot.{Spot, alone, in_arguments};
 ghost use Rattle.fpc_terms.specs.Machine.{TermState, wants, named, has, ended, limited, whole_of, is_final};
 ghost use Rattle.fpc_terms.specs.Holding.{Holds, Takes, IsNamed, is_variable};
 
-use fpc_base::outside::OutOfMemory;
-use fpc_base::refusal::{Code, TokenRefusal};
-use fpc_base::tokens::lexeme::{Lexeme, Sign};
+use crate::builder::TermBuilder;
 use crate::cell::Cell;
 use crate::name::NameId;
 use crate::names::Names;
 use crate::term::TermBuf;
+use fpc_base::outside::OutOfMemory;
+use fpc_base::refusal::{Code, TokenRefusal};
+use fpc_base::tokens::lexeme::{Lexeme, Sign};
 use std::alloc::Global;
-use crate::builder::TermBuilder;
 
 /// What comes next.
 #[derive(Clone, Copy, PartialEq, Eq, Debug)]

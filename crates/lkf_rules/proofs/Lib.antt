@@ -1,5 +1,5 @@
 pub mod Lists
-pub mod Scope
+pub mod Leaves
 pub mod Sound
 pub mod Play
 pub mod Preorder
@@ -7,3 +7,5 @@ pub mod Spelling
 pub mod Exchange
 pub mod InitialFacts
 pub mod StepFacts
+pub mod Complete
+pub mod ScopeNodes

@@ -1,16 +1,14 @@
 -- Play: steps in a row, one result, and what the sequents keep.
 use Rattle.std.proofs.Common.{◌≡◌, ℕ, ◌+◌, ◌<◌, ◌≤◌, List, [], ◌∷◌, ◌++◌, Some, None, length, refl, arith, length-append}
 use Rattle.std.specs.List.{AllByRecursion}
-use Rattle.polarised_formulas.specs.declared.logic.Logic.TheVariants.{Lkf}
 use Rattle.polarised_formulas.specs.declared.step.Step.{Step}
 use Rattle.polarised_formulas.specs.Formula.{Formula, IsClosed, IsLkf}
-use Rattle.polarised_formulas.specs.Step.{IsProperStep}
 use Rattle.fpc_terms.specs.Term.{Never}
 use Rattle.lkf_rules.specs.Sequent.{Sequent, Levelled, IsInScope, IsLkfSequent}
 use Rattle.lkf_rules.specs.Premises.{premises_of}
 use Rattle.lkf_rules.specs.Play.{PlaysOne, plays, Plays, plays_none, plays_more, PlaysOut, start_of}
 use Rattle.lkf_rules.proofs.Lists.{AllByRecursion-append, AllByRecursion-weaker}
-use Rattle.lkf_rules.proofs.Scope.{EachInside-weaker}
+use Rattle.lkf_rules.proofs.Leaves.{EachInside-weaker}
 use Rattle.lkf_rules.proofs.Sound.{IsSound-premises_of}
 
 -- steps that play on from where others end
@@ -45,20 +43,20 @@ pub PlaysOne-empty : (step : Step) (r : List Levelled) → PlaysOne [] step r �
 PlaysOne-empty step r one = elim one [ ]
 
 -- a step plays the premises that it names
-pub PlaysOne-premises : (n : ℕ) (c : Sequent) (step : Step) (ps q : List Levelled) → IsProperStep Lkf step → premises_of step n c ≡ Some ps → PlaysOne ((n, c) ∷ q) step (ps ++ q)
-PlaysOne-premises n c step ps q proper fits = plays proper fits
+pub PlaysOne-premises : (n : ℕ) (c : Sequent) (step : Step) (ps q : List Levelled) → premises_of step n c ≡ Some ps → PlaysOne ((n, c) ∷ q) step (ps ++ q)
+PlaysOne-premises n c step ps q fits = plays fits
 
 -- a step that names premises plays to these alone
 pub PlaysOne-same_premises : (n : ℕ) (c : Sequent) (step : Step) (ps q r : List Levelled) → premises_of step n c ≡ Some ps → PlaysOne ((n, c) ∷ q) step r → r ≡ ps ++ q
-PlaysOne-same_premises n c step ps q _ fits (plays {ps = ps'} proper fits') = let same : ps' ≡ ps = cc in rw same
+PlaysOne-same_premises n c step ps q _ fits (plays {ps = ps'} fits') = let same : ps' ≡ ps = cc in rw same
 
 -- a step that names no premises does not fit
 pub PlaysOne-stuck : (n : ℕ) (c : Sequent) (step : Step) (q r : List Levelled) → premises_of step n c ≡ None → PlaysOne ((n, c) ∷ q) step r → ⊥
-PlaysOne-stuck n c step q _ stuck (plays proper fits) = cc
+PlaysOne-stuck n c step q _ stuck (plays fits) = cc
 
 -- a step plays a list to at most one
 pub PlaysOne-same : (q r r' : List Levelled) (step : Step) → PlaysOne q step r → PlaysOne q step r' → r ≡ r'
-PlaysOne-same _ _ r' step (plays {n} {c} {ps = ps} {q = q} proper fits) other = let e = PlaysOne-same_premises n c step ps q r' fits other in cc
+PlaysOne-same _ _ r' step (plays {n} {c} {ps = ps} {q = q} fits) other = let e = PlaysOne-same_premises n c step ps q r' fits other in cc
 
 -- steps play a list to at most one
 pub Plays-same : (q r r' : List Levelled) (steps : List Step) → Plays q steps r → Plays q steps r' → r ≡ r'
@@ -87,19 +85,19 @@ Plays-stuck n c q r step rest stuck h = let first = Plays-first ((n, c) ∷ q) r
 
 -- scope is kept
 pub IsInScope-plays : (q r : List Levelled) (step : Step) → AllByRecursion IsInScope q → PlaysOne q step r → AllByRecursion IsInScope r
-IsInScope-plays _ _ step h (plays {n} {c} {ps = ps} {q = q} proper fits) =
-    AllByRecursion-append IsInScope ps q ((IsSound-premises_of step n c ps proper fits).scope h.0) h.1
+IsInScope-plays _ _ step h (plays {n} {c} {ps = ps} {q = q} fits) =
+    AllByRecursion-append IsInScope ps q ((IsSound-premises_of step n c ps fits).scope h.0) h.1
 
 -- formulas of LKF are kept
 pub IsLkfSequent-plays : (q r : List Levelled) (step : Step) → AllByRecursion (λ p. IsLkfSequent p.1) q → PlaysOne q step r → AllByRecursion (λ p. IsLkfSequent p.1) r
-IsLkfSequent-plays _ _ step h (plays {n} {c} {ps = ps} {q = q} proper fits) =
-    AllByRecursion-append (λ p. IsLkfSequent p.1) ps q ((IsSound-premises_of step n c ps proper fits).logic h.0) h.1
+IsLkfSequent-plays _ _ step h (plays {n} {c} {ps = ps} {q = q} fits) =
+    AllByRecursion-append (λ p. IsLkfSequent p.1) ps q ((IsSound-premises_of step n c ps fits).logic h.0) h.1
 
 -- a step raises levels by at most one
 pub levels-plays : (m : ℕ) (q r : List Levelled) (step : Step) → AllByRecursion (λ p. p.0 ≤ m) q → PlaysOne q step r → AllByRecursion (λ p. p.0 ≤ m + 1) r
-levels-plays m _ _ step h (plays {n} {c} {ps = ps} {q = q} proper fits) =
+levels-plays m _ _ step h (plays {n} {c} {ps = ps} {q = q} fits) =
     AllByRecursion-append (λ p. p.0 ≤ m + 1) ps q
-    (AllByRecursion-weaker (λ p. p.0 ≤ n + 1) (λ p. p.0 ≤ m + 1) (λ p le. let first : n ≤ m = h.0 in omega arith) ps (IsSound-premises_of step n c ps proper fits).levels)
+    (AllByRecursion-weaker (λ p. p.0 ≤ n + 1) (λ p. p.0 ≤ m + 1) (λ p le. let first : n ≤ m = h.0 in omega arith) ps (IsSound-premises_of step n c ps fits).levels)
     (AllByRecursion-weaker (λ p. p.0 ≤ m) (λ p. p.0 ≤ m + 1) (λ p le. omega arith) q h.1)
 
 -- a goal is in scope at the start
@@ -150,10 +148,10 @@ IsLeft-start f steps closed lkf =
 -- a step gone makes room for its level
 IsLeft-levels : (m : ℕ) (q r : List Levelled) (step : Step) (rest : List Step) → PlaysOne q step r → AllByRecursion (λ p. p.0 + length (step ∷ rest) ≤ m) q
     → AllByRecursion (λ p. p.0 + length rest ≤ m) r
-IsLeft-levels m _ _ step rest (plays {n} {c} {ps = ps} {q = q} proper fits) h =
+IsLeft-levels m _ _ step rest (plays {n} {c} {ps = ps} {q = q} fits) h =
     AllByRecursion-append (λ p. p.0 + length rest ≤ m) ps q
     (AllByRecursion-weaker (λ p. p.0 ≤ n + 1) (λ p. p.0 + length rest ≤ m) (λ p le. let first = h.0 in omega arith) ps
-    (IsSound-premises_of step n c ps proper fits).levels)
+    (IsSound-premises_of step n c ps fits).levels)
     (AllByRecursion-weaker (λ p. p.0 + length (step ∷ rest) ≤ m) (λ p. p.0 + length rest ≤ m) (λ p le. omega arith) q h.1)
 
 -- the steps behind one that fits are left

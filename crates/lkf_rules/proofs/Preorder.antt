@@ -11,7 +11,7 @@ use Rattle.lkf_rules.specs.Play.{plays, Plays, plays_more}
 mutual
   pub Plays-steps_before : (c : Certificate) (t : Tree) (n : ℕ) (q r : List Levelled) (rest : List Step) → Spells c t n → Plays q rest r
       → Plays ((n, root_sequent t) ∷ q) (steps_before c rest) r
-  Plays-steps_before (by step cs) (node c ts) n q r rest h k = plays_more (plays h.0 h.1.1) (Plays-all_steps_before cs ts h.1.0 q r rest h.1.2 k)
+  Plays-steps_before (by step cs) (node c ts) n q r rest h k = plays_more (plays h.1) (Plays-all_steps_before cs ts h.0 q r rest h.2 k)
 
   pub Plays-all_steps_before : (cs : Certificates) (ts : Trees) (ps q r : List Levelled) (rest : List Step) → AllSpell cs ts ps → Plays q rest r
       → Plays (ps ++ q) (all_steps_before cs rest) r
@@ -23,7 +23,7 @@ mutual
 -- a certificate has as many steps as its tree has nodes
 mutual
   pub length-steps_before : (c : Certificate) (t : Tree) (n : ℕ) (rest : List Step) → Spells c t n → length (steps_before c rest) ≡ node_count t + length rest
-  length-steps_before (by step cs) (node c ts) n rest h = omega (arith, length-all_steps_before cs ts h.1.0 rest h.1.2)
+  length-steps_before (by step cs) (node c ts) n rest h = omega (arith, length-all_steps_before cs ts h.0 rest h.2)
 
   pub length-all_steps_before : (cs : Certificates) (ts : Trees) (ps : List Levelled) (rest : List Step) → AllSpell cs ts ps
       → length (all_steps_before cs rest) ≡ all_node_count ts + length rest
@@ -52,9 +52,9 @@ mutual
       let step_is : step ≡ step' = cc in
       let more : all_steps_before cs xs ≡ all_steps_before ds ys = cc in
       let same : premises_of step n c ≡ premises_of step' n c' = cc in
-      let ps_are : h.1.0 ≡ k.1.0 = cc (h.1.1, k.1.1) in
-      let h' : AllSpell cs ts k.1.0 = rw ps_are at h.1.2 in
-      let below = AreOneSpelling-all_steps_before k.1.0 cs ds ts us xs ys h' k.1.2 more in
+      let ps_are : h.0 ≡ k.0 = cc (h.1, k.1) in
+      let h' : AllSpell cs ts k.0 = rw ps_are at h.2 in
+      let below = AreOneSpelling-all_steps_before k.0 cs ds ts us xs ys h' k.2 more in
       record { certificates = cc; trees = cc; others = below.others }
 
   pub AreOneSpelling-all_steps_before : (ps : List Levelled) (cs ds : Certificates) (ts us : Trees) (xs ys : List Step) → AllSpell cs ts ps → AllSpell ds us ps

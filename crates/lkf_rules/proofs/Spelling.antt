@@ -71,16 +71,16 @@ roots-spell _ _ _ h = absurd h
 -- steps that play sequents in scope away spell derivations of them
 pub AreSpelled-plays : (q : List Levelled) (steps : List Step) → Plays q steps [] → AllByRecursion IsInScope q → AreSpelled q steps
 AreSpelled-plays _ _ plays_none h = record { certificates = no_certificates; trees = no_trees; spell = tt; derivations = tt; preorder = refl }
-AreSpelled-plays _ _ (plays_more {step = step} {steps = steps} (plays {n} {c} {ps = ps} {q = q} proper fits) more) h =
-    let s = AreSpelled-plays (ps ++ q) steps more (IsInScope-plays ((n, c) ∷ q) (ps ++ q) step h (plays proper fits)) in
+AreSpelled-plays _ _ (plays_more {step = step} {steps = steps} (plays {n} {c} {ps = ps} {q = q} fits) more) h =
+    let s = AreSpelled-plays (ps ++ q) steps more (IsInScope-plays ((n, c) ∷ q) (ps ++ q) step h (plays fits)) in
     let parts = AreParted-spell ps q s.certificates s.trees s.spell s.derivations in
     let rule : Rule c (roots parts.first_trees) =
-    rw (roots-spell parts.first_certificates parts.first_trees ps parts.spell_first) ((IsSound-premises_of step n c ps proper fits).rule h.0) in
+    rw (roots-spell parts.first_certificates parts.first_trees ps parts.spell_first) ((IsSound-premises_of step n c ps fits).rule h.0) in
     let order = parts.preorder [] in
     record {
       certificates = certificate (by step parts.first_certificates) parts.later_certificates;
       trees = tree (node c parts.first_trees) parts.later_trees;
-      spell = (refl, ((proper, (ps, fits, parts.spell_first)), parts.spell_later));
+      spell = (refl, ((ps, fits, parts.spell_first), parts.spell_later));
       derivations = ((rule, parts.first_derivations), parts.later_derivations);
       preorder = let e = s.preorder in cc;
     }

@@ -1,36 +1,63 @@
--- What the answer to a step says, and terms that may be put in.
-use Rattle.std.proofs.Common.{◌≡◌, ◌↔◌, List, refl}
-use Rattle.std.specs.Prelude.{Option, Some, None, Result, Ok, Err, IfOk}
-use Rattle.fpc_terms.specs.Term.{Term, Each, IsProperTerm, Always, Never}
+-- What the answer to a step says, and what may be put in or cut.
+use Rattle.std.proofs.Common.{◌≡◌, ◌≢◌, ◌↔◌, ℕ, List, refl}
+use Rattle.std.specs.Prelude.{true, Option, Some, None, Result, Ok, Err, IfOk}
+use Rattle.std.specs.Option.{IsSome}
+use Rattle.fpc_terms.specs.Term.{Term, Each, Always, Never}
 use Rattle.fpc_terms.proofs.ScopeFacts.{Each-weaker}
+use Rattle.polarised_formulas.specs.declared.step.Step.{Step}
+use Rattle.polarised_formulas.specs.declared.step.Step.TheVariants.{Cut}
+use Rattle.polarised_formulas.specs.Formula.{Formula, IsLkf}
 use Rattle.lkf_rules.specs.declared.rules.outcome.Premises.{Premises}
 use Rattle.lkf_rules.specs.declared.rules.outcome.StepRefusal.{StepRefusal}
 use Rattle.lkf_rules.specs.declared.rules.outcome.StepRefusal.TheVariants.{DoesNotFit, OutOfMemory}
 use Rattle.lkf_rules.specs.Sequent.{Levelled}
-use Rattle.lkf_rules.specs.Values.{premise_list, Gives}
+use Rattle.lkf_rules.specs.Scope.{is_scoped, may_be_cut}
+use Rattle.lkf_rules.specs.Values.{premise_list, Gives, Answers, MayRunOut}
+use Rattle.lkf_rules.proofs.Leaves.{InScope-is_scoped, IsLkf-may_be_cut}
 
--- a term without bound indexes and variables has no bound index
-pub is_unbound : (t : Term) → IsProperTerm Always t → Each Always Never Always t
-is_unbound t h = Each-weaker (λ n x. x) (λ n x. x) (λ n x. absurd x) t h
+-- a term in scope has no bound index
+pub is_unbound : (n : ℕ) (t : Term) → is_scoped n 0 t ≡ true → Each Always Never Always t
+is_unbound n t passes = Each-weaker (λ n x. tt) (λ n x. x) (λ n x. absurd x) t (InScope-is_scoped n t passes)
+
+-- a formula that may be cut is of LKF
+pub is_lkf : (n : ℕ) (f : Formula) → may_be_cut n 0 f ≡ true → IsLkf f
+is_lkf n f passes = IsLkf-may_be_cut n 0 f passes
 
 pub ruleset step_facts = (is_unbound)
 
-pub gives-fits : (r : Result Premises StepRefusal) (o : Option (List Levelled)) → Gives r o → IfOk r (λ p. o ≡ Some (premise_list p))
-gives-fits (Ok p) o h = h
-gives-fits (Err e) o h = tt
+pub ruleset cut_facts = (is_lkf)
 
-gives-unfit_forth : (r : Result Premises StepRefusal) (o : Option (List Levelled)) → Gives r o → r ≡ Err DoesNotFit → o ≡ None
-gives-unfit_forth (Ok p) o h e = cc
-gives-unfit_forth (Err DoesNotFit) o h e = h
-gives-unfit_forth (Err OutOfMemory) o h e = cc
+-- memory may run out at each step that names premises
+MayRunOut-some : (step : Step) (o : Option (List Levelled)) → IsSome o → MayRunOut step o
+MayRunOut-some (Cut b) o h = tt
+MayRunOut-some _ o h = h
 
-gives-unfit_back : (r : Result Premises StepRefusal) (o : Option (List Levelled)) → Gives r o → o ≡ None → r ≡ Err DoesNotFit
-gives-unfit_back (Ok p) o h e = cc
-gives-unfit_back (Err DoesNotFit) o h e = refl
-gives-unfit_back (Err OutOfMemory) (Some ps) h e = cc
-gives-unfit_back (Err OutOfMemory) None h e = cc
+-- an answer for which memory runs out only at premises is one to each step
+pub Answers-gives : (step : Step) (r : Result Premises StepRefusal) (o : Option (List Levelled)) → Gives r o → Answers step r o
+Answers-gives step (Ok p) o h = h
+Answers-gives step (Err DoesNotFit) o h = h
+Answers-gives step (Err OutOfMemory) o h = MayRunOut-some step o h
 
-pub gives-unfit : (r : Result Premises StepRefusal) (o : Option (List Levelled)) → Gives r o → r ≡ Err DoesNotFit ↔ o ≡ None
-gives-unfit r o h = (gives-unfit_forth r o h, gives-unfit_back r o h)
+pub Answers-fits : (step : Step) (r : Result Premises StepRefusal) (o : Option (List Levelled)) → Answers step r o → IfOk r (λ p. o ≡ Some (premise_list p))
+Answers-fits step (Ok p) o h = h
+Answers-fits step (Err e) o h = tt
 
-pub ruleset answer_facts = (gives-fits, gives-unfit)
+Answers-unfit_forth : (step : Step) (r : Result Premises StepRefusal) (o : Option (List Levelled)) → Answers step r o → r ≡ Err DoesNotFit → (o ≡ None) × (r ≢ Err OutOfMemory)
+Answers-unfit_forth step (Ok p) o h e = cc
+Answers-unfit_forth step (Err DoesNotFit) o h e = (h, λ x. cc)
+Answers-unfit_forth step (Err OutOfMemory) o h e = cc
+
+Answers-unfit_back : (step : Step) (r : Result Premises StepRefusal) (o : Option (List Levelled)) → Answers step r o → (o ≡ None) × (r ≢ Err OutOfMemory) → r ≡ Err DoesNotFit
+Answers-unfit_back step (Ok p) o h e = let none = e.0 in cc
+Answers-unfit_back step (Err DoesNotFit) o h e = refl
+Answers-unfit_back step (Err OutOfMemory) o h e = absurd (e.1 refl)
+
+pub Answers-unfit : (step : Step) (r : Result Premises StepRefusal) (o : Option (List Levelled)) → Answers step r o → r ≡ Err DoesNotFit ↔ (o ≡ None) × (r ≢ Err OutOfMemory)
+Answers-unfit step r o h = (Answers-unfit_forth step r o h, Answers-unfit_back step r o h)
+
+pub Answers-memory : (step : Step) (r : Result Premises StepRefusal) (o : Option (List Levelled)) → Answers step r o → r ≡ Err OutOfMemory → MayRunOut step o
+Answers-memory step (Ok p) o h e = cc
+Answers-memory step (Err DoesNotFit) o h e = cc
+Answers-memory step (Err OutOfMemory) o h e = h
+
+pub ruleset answer_facts = (Answers-gives, Answers-fits, Answers-unfit, Answers-memory)

@@ -1,9 +1,7 @@
 -- Explicit certificates: trees of steps that spell derivations.
 use Rattle.std.specs.Prelude.{◌≡◌, ℕ, List, [], ◌∷◌, Some}
-use Rattle.polarised_formulas.specs.declared.logic.Logic.TheVariants.{Lkf}
 use Rattle.polarised_formulas.specs.declared.step.Step.{Step}
 use Rattle.polarised_formulas.specs.Formula.{Formula}
-use Rattle.polarised_formulas.specs.Step.{IsProperStep}
 use Rattle.lkf_rules.specs.Sequent.{Levelled}
 use Rattle.lkf_rules.specs.Derivation.{Tree, Trees, node, no_trees, tree, root_sequent, Derivation}
 use Rattle.lkf_rules.specs.Premises.{premises_of}
@@ -13,6 +11,7 @@ mutual
   pub data Certificate : Type 0 where
     by : (step : Step) → (children : Certificates) → Certificate
 
+  -- certificates in a row
   pub data Certificates : Type 0 where
     no_certificates : Certificates
     certificate : Certificate → Certificates → Certificates
@@ -22,6 +21,7 @@ abbrev mutual
   pub steps_before : Certificate → List Step → List Step
   steps_before (by step cs) rest = step ∷ all_steps_before cs rest
 
+  -- the steps of certificates in a row, before other steps
   pub all_steps_before : Certificates → List Step → List Step
   all_steps_before no_certificates rest = rest
   all_steps_before (certificate c cs) rest = steps_before c (all_steps_before cs rest)
@@ -33,7 +33,7 @@ preorder_of c = steps_before c []
 abbrev mutual
   -- the certificate spells the tree at a level
   pub Spells : Certificate → Tree → ℕ → Type 0
-  Spells (by step cs) (node c ts) n = IsProperStep Lkf step × ((ps : List Levelled) × (premises_of step n c ≡ Some ps) × AllSpell cs ts ps)
+  Spells (by step cs) (node c ts) n = (ps : List Levelled) × (premises_of step n c ≡ Some ps) × AllSpell cs ts ps
 
   -- the certificates spell trees with these roots, each at its level
   pub AllSpell : Certificates → Trees → List Levelled → Type 0

@@ -1,14 +1,12 @@
 -- Laws of play, spellings and derivations.
 use Rattle.std.specs.Prelude.{◌≡◌, ◌↔◌, ℕ, List, length, IsPermutation}
 use Rattle.polarised_formulas.specs.declared.step.Step.{Step}
-use Rattle.std.specs.Prelude.{map, Some}
+use Rattle.std.specs.Prelude.{Some}
 use Rattle.std.specs.List.{AllByRecursion}
-use Rattle.polarised_formulas.specs.declared.logic.Logic.TheVariants.{Lkf}
-use Rattle.polarised_formulas.specs.Step.{IsProperStep}
 use Rattle.polarised_formulas.specs.Formula.{Formula, IsClosed, IsLkf}
 use Rattle.lkf_rules.specs.Sequent.{Sequent, up, down, Levelled, IsInScope, IsLkfSequent, root_of}
-use Rattle.lkf_rules.specs.Rule.{Rule}
 use Rattle.lkf_rules.specs.Premises.{premises_of}
+use Rattle.lkf_rules.specs.Instance.{IsInstance}
 use Rattle.lkf_rules.specs.Derivation.{Tree, IsDerivation, root_sequent, node_count, IsDerivable}
 use Rattle.lkf_rules.specs.Certificate.{Certificate, Spells, IsSpelling}
 use Rattle.lkf_rules.specs.Play.{PlaysOne, PlaysOut}
@@ -52,14 +50,17 @@ abbrev pub KeepsUnderExchange : Type 0
 KeepsUnderExchange = (t : Tree) (fs : List Formula) → IsDerivation t → IsPermutation (stored_of (root_sequent t)) fs
     → (u : Tree) × (root_sequent u ≡ with_stored fs (root_sequent t)) × IsDerivation u × (node_count u ≡ node_count t)
 
--- at a sequent in scope, the premises that a step names are those of an instance of a rule, and they are in scope at their levels
-abbrev pub NamesAnInstance : Type 0
-NamesAnInstance = (step : Step) (n : ℕ) (c : Sequent) (ps : List Levelled) → IsProperStep Lkf step → IsInScope (n, c) → premises_of step n c ≡ Some ps
-    → Rule c (map (λ p. p.1) ps) × AllByRecursion IsInScope ps
+-- at a sequent in scope, the premises that a step names are exactly those of an instance of a rule that it spells there
+abbrev pub NamesInstances : Type 0
+NamesInstances = (step : Step) (n : ℕ) (c : Sequent) (ps : List Levelled) → IsInScope (n, c) → premises_of step n c ≡ Some ps ↔ IsInstance step n c ps
+
+-- the premises that a step names at a sequent in scope are in scope at their levels
+abbrev pub KeepsScope : Type 0
+KeepsScope = (step : Step) (n : ℕ) (c : Sequent) (ps : List Levelled) → IsInScope (n, c) → premises_of step n c ≡ Some ps → AllByRecursion IsInScope ps
 
 -- of a sequent of LKF formulas the premises are such sequents
 abbrev pub KeepsLkf : Type 0
-KeepsLkf = (step : Step) (n : ℕ) (c : Sequent) (ps : List Levelled) → IsProperStep Lkf step → IsLkfSequent c → premises_of step n c ≡ Some ps
+KeepsLkf = (step : Step) (n : ℕ) (c : Sequent) (ps : List Levelled) → IsLkfSequent c → premises_of step n c ≡ Some ps
     → AllByRecursion (λ p. IsLkfSequent p.1) ps
 
 -- the root of a closed goal of LKF is in scope at level 0, and its formulas are of LKF

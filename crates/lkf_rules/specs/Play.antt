@@ -1,15 +1,13 @@
 -- Play: steps in preorder replace the first of a list of sequents by the premises of the instance that they name.
 use Rattle.std.specs.Prelude.{◌≡◌, ℕ, List, [], ◌∷◌, ◌++◌, Some}
-use Rattle.polarised_formulas.specs.declared.logic.Logic.TheVariants.{Lkf}
 use Rattle.polarised_formulas.specs.declared.step.Step.{Step}
 use Rattle.polarised_formulas.specs.Formula.{Formula}
-use Rattle.polarised_formulas.specs.Step.{IsProperStep}
 use Rattle.lkf_rules.specs.Sequent.{Sequent, Levelled, root_of}
 use Rattle.lkf_rules.specs.Premises.{premises_of}
 
 -- a step plays a list of sequents with their levels to another
 pub data PlaysOne : List Levelled → Step → List Levelled → Type 0 where
-  plays : {n : ℕ} {c : Sequent} {step : Step} {ps q : List Levelled} → IsProperStep Lkf step → premises_of step n c ≡ Some ps → PlaysOne ((n, c) ∷ q) step (ps ++ q)
+  plays : {n : ℕ} {c : Sequent} {step : Step} {ps q : List Levelled} → premises_of step n c ≡ Some ps → PlaysOne ((n, c) ∷ q) step (ps ++ q)
 
 -- steps play a list of sequents to another, in order
 pub data Plays : List Levelled → List Step → List Levelled → Type 0 where

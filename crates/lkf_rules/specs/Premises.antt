@@ -1,20 +1,22 @@
 -- The instance of a rule that a step names at a sequent with its level.
 use Rattle.std.specs.Prelude.{ℕ, ◌+◌, true, false, ◌&&◌, nat_eq, if◌then◌else◌, List, [], ◌∷◌, ◌++◌, Option, Some, None, slice_get}
-use Rattle.fpc_terms.specs.Term.{eigen, has_eigen_from, same_args}
+use Rattle.fpc_terms.specs.Term.{eigen, same_args}
 use Rattle.polarised_formulas.specs.declared.logic.Polarity.{Polarity}
 use Rattle.polarised_formulas.specs.declared.logic.Polarity.TheVariants.{Positive, Negative}
 use Rattle.polarised_formulas.specs.declared.logic.Side.TheVariants.{Left, Right}
 use Rattle.polarised_formulas.specs.declared.step.Step.{Step}
 use Rattle.polarised_formulas.specs.declared.step.Step.TheVariants.{TrueN, FalseN, OrN, AndN, Every, Store, Decide, TrueP, AndP, OrP, Exists, Release, Init, Cut}
-use Rattle.polarised_formulas.specs.Formula.{Formula, truth, falsity, atom, conj, disj, for_all, exists, polarity_of, dual_of, open_at, has_eigen_in}
+use Rattle.polarised_formulas.specs.Formula.{Formula, truth, falsity, atom, conj, disj, for_all, exists, polarity_of, dual_of, open_at}
 use Rattle.lkf_rules.specs.Sequent.{Sequent, up, down, Levelled}
+use Rattle.lkf_rules.specs.Scope.{is_scoped, may_be_cut}
 use Rattle.lkf_rules.specs.Rule.{is_storable}
 
--- the premises where a formula is positive, or is negative
+-- the premises where a formula is positive
 abbrev pub where_positive : Polarity → List Levelled → Option (List Levelled)
 where_positive Positive ps = Some ps
 where_positive Negative ps = None
 
+-- the premises where a formula is negative
 abbrev pub where_negative : Polarity → List Levelled → Option (List Levelled)
 where_negative Positive ps = None
 where_negative Negative ps = Some ps
@@ -42,7 +44,7 @@ worked _ n s f g = None
 -- a step at a sequent with nothing to work on
 abbrev pub chosen : Step → ℕ → List Formula → Option (List Levelled)
 chosen (Decide k) n s = decided n s (slice_get s k)
-chosen (Cut b) n s = if has_eigen_in n b then None else Some ((n, up s (b ∷ [])) ∷ (n, up s (dual_of b ∷ [])) ∷ [])
+chosen (Cut b) n s = if may_be_cut n 0 b then Some ((n, up s (b ∷ [])) ∷ (n, up s (dual_of b ∷ [])) ∷ []) else None
 chosen _ n s = None
 
 -- a step on the formula under focus
@@ -51,13 +53,13 @@ focused TrueP n s (truth Positive) = Some []
 focused AndP n s (conj Positive a b) = Some ((n, down s a) ∷ (n, down s b) ∷ [])
 focused (OrP Left) n s (disj Positive a b) = Some ((n, down s a) ∷ [])
 focused (OrP Right) n s (disj Positive a b) = Some ((n, down s b) ∷ [])
-focused (Exists t) n s (exists a) = if has_eigen_from n t then None else Some ((n, down s (open_at 0 t a)) ∷ [])
+focused (Exists t) n s (exists a) = if is_scoped n 0 t then Some ((n, down s (open_at 0 t a)) ∷ []) else None
 focused Release n s f = where_negative (polarity_of f) ((n, up s (f ∷ [])) ∷ [])
 focused (Init k) n s f = closed_with f (slice_get s k)
 focused _ n s f = None
 
 -- The premises of the instance that a step names, with their levels; none where it names none. A place counts the stored formulas from 0;
--- the eigenvariable of `all` is the conclusion's level; a term or cut formula is in scope at that level.
+-- the eigenvariable of `all` is the conclusion's level; a term or cut formula is in scope at that level, and the cut formula is of LKF.
 abbrev pub premises_of : Step → ℕ → Sequent → Option (List Levelled)
 premises_of step n (up s (f ∷ g)) = worked step n s f g
 premises_of step n (up s []) = chosen step n s

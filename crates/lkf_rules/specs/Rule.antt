@@ -20,6 +20,7 @@ is_storable (implies a b) = false
 is_storable (for_all a) = false
 is_storable (exists a) = true
 
+-- The instances of the rules, a conclusion and its premises: one line for each rule.
 pub data Rule : Sequent → List Sequent → Type 0 where
   true_negative : (s g : List Formula) → Rule (up s (truth Negative ∷ g)) []
   false_negative : (s g : List Formula) → Rule (up s (falsity Negative ∷ g)) (up s g ∷ [])

@@ -4,6 +4,7 @@ use Rattle.std.specs.List.{AllByRecursion}
 use Rattle.std.specs.Prelude.{slice_get}
 use Rattle.polarised_formulas.specs.Formula.{Formula, IsProper, IsLkf}
 
+-- a sequent of the negative or of the positive phase
 pub data Sequent : Type 0 where
   -- the stored formulas and those still to be worked on
   up : (stored work : List Formula) → Sequent

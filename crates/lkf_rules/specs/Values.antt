@@ -7,6 +7,8 @@ use Rattle.lkf_rules.specs.declared.rules.outcome.Premises.{Premises}
 use Rattle.lkf_rules.specs.declared.rules.outcome.Premises.TheVariants.{None as NoPremise, One, Two}
 use Rattle.lkf_rules.specs.declared.rules.outcome.StepRefusal.{StepRefusal}
 use Rattle.lkf_rules.specs.declared.rules.outcome.StepRefusal.TheVariants.{DoesNotFit, OutOfMemory}
+use Rattle.polarised_formulas.specs.declared.step.Step.{Step}
+use Rattle.polarised_formulas.specs.declared.step.Step.TheVariants.{Cut}
 use Rattle.lkf_rules.specs.Sequent.{Levelled, up, down}
 
 -- the sequent with its level
@@ -25,3 +27,14 @@ abbrev pub Gives : Result Premises StepRefusal → Option (List Levelled) → Ty
 Gives (Ok p) o = o ≡ Some (premise_list p)
 Gives (Err DoesNotFit) o = o ≡ None
 Gives (Err OutOfMemory) o = IsSome o
+
+-- where memory may run out: at `cut` already in the test of the formula, at every other step only where the step names premises
+abbrev pub MayRunOut : Step → Option (List Levelled) → Type 0
+MayRunOut (Cut b) o = Unit {0}
+MayRunOut _ o = IsSome o
+
+-- the answer to this step, which names these premises, or none
+abbrev pub Answers : Step → Result Premises StepRefusal → Option (List Levelled) → Type 0
+Answers step (Ok p) o = o ≡ Some (premise_list p)
+Answers step (Err DoesNotFit) o = o ≡ None
+Answers step (Err OutOfMemory) o = MayRunOut step o

@@ -1,5 +1,5 @@
 //! Laws of play, spellings and derivations. The functions do nothing: their contracts say the laws.
-ghost use Rattle.lkf_rules.specs.Laws.{PlayIsSpelling, PlayIsSound, HasOneNodeAStep, PlaysToOneList, SpellsOneTree, HasOneSpelling, KeepsUnderExchange, NamesAnInstance, KeepsLkf, RootIsInScope};
+ghost use Rattle.lkf_rules.specs.Laws.{PlayIsSpelling, PlayIsSound, HasOneNodeAStep, PlaysToOneList, SpellsOneTree, HasOneSpelling, KeepsUnderExchange, NamesInstances, KeepsScope, KeepsLkf, RootIsInScope};
 
 /// Steps play a closed goal out exactly where they are the preorder of a certificate that spells a derivation of the goal.
 pub fn play()
@@ -29,9 +29,11 @@ pub fn exchange()
     ensures { KeepsUnderExchange }
 {}
 
-/// The premises that a step names at a sequent are those of an instance of a rule. Scope and logic are kept from the root on.
+/// The premises that a step names at a sequent in scope are exactly those of an instance of a rule that it spells there. Scope and logic are kept
+/// from the root on.
 pub fn instances()
-    ensures instance { NamesAnInstance }
+    ensures instance { NamesInstances }
+    ensures scope { KeepsScope }
     ensures logic { KeepsLkf }
     ensures root { RootIsInScope }
 {}

@@ -3,6 +3,7 @@
 
 pub mod laws;
 pub mod rules;
+pub mod scope;
 pub mod sequent;
 
 pub use rules::outcome::{Premises, StepRefusal};

@@ -1,4 +1,7 @@
 //! Sequents of LKF.
+ghost use Rattle.std.specs.Prelude.{◌≡◌};
+ghost use Rattle.lkf_rules.specs.Values.{levelled};
+
 use polarised_formulas::formula::Formula;
 use polarised_formulas::list::Formulas;
 
@@ -17,4 +20,15 @@ pub enum Sequent {
         stored: Formulas,
         focus: Formula,
     },
+}
+
+impl Sequent {
+    /// The sequent's level.
+    pub fn level(&self) -> u64
+        ensures { result ≡ (levelled self.now).0 }
+    {
+        match self {
+            Sequent::Up { level, .. } | Sequent::Down { level, .. } => *level,
+        }
+    }
 }

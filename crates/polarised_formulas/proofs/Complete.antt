@@ -30,7 +30,7 @@ joiner_of-joiner_sign Ljf (Or Positive) h = refl
 joiner_of-joiner_sign Ljf Implies h = refl
 joiner_of-joiner_sign _ _ h = absurd h
 
-joiner-behind : (logic : Logic) (j : Joiner) (rest : List Lexeme) → IsBehind (a_sign (joiner_sign logic j) ∷ rest)
+pub joiner-behind : (logic : Logic) (j : Joiner) (rest : List Lexeme) → IsBehind (a_sign (joiner_sign logic j) ∷ rest)
 joiner-behind logic (And Positive) rest = tt
 joiner-behind logic (And Negative) rest = tt
 joiner-behind Lkf (Or Positive) rest = tt

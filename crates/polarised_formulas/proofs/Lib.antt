@@ -20,3 +20,14 @@ pub mod ProblemLaws
 pub mod ProblemLimits
 pub mod ProblemReading
 pub mod ReadFacts
+pub mod Pieces
+pub mod Scan
+pub mod Meant
+pub mod Small
+pub mod Fits
+pub mod Takes
+pub mod Passed
+pub mod Named
+pub mod Closed
+pub mod RoundTrip
+pub mod FormulaNames

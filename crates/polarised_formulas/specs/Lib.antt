@@ -12,3 +12,8 @@ pub mod Machine
 pub mod Bound
 pub mod Holding
 pub mod ReadFormula
+pub mod WrittenOf
+pub mod Size
+pub mod Spoken
+pub mod EachName
+pub mod RoundTrip

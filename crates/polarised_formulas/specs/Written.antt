@@ -4,7 +4,7 @@ use Rattle.fpc_base.specs.declared.tokens.lexeme.Sign.{Sign}
 use Rattle.fpc_base.specs.declared.tokens.lexeme.Sign.TheVariants as sign
 use Rattle.fpc_base.specs.Lexeme.{Lexeme, a_name, a_variable, a_sign}
 use Rattle.fpc_base.specs.Tokens.{is_one_of}
-use Rattle.fpc_terms.specs.Name.{index_in}
+pub use Rattle.fpc_terms.specs.Name.{index_in}
 use Rattle.fpc_terms.specs.Term.{Term, bound, variable}
 use Rattle.fpc_terms.specs.Written.{WrittenArgs, args_tokens, AreKnown, args_meant}
 use Rattle.polarised_formulas.specs.declared.logic.Logic.{Logic}

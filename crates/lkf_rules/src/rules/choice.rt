@@ -1,23 +1,20 @@
 //! The steps at a sequent with nothing left to work on.
 ghost use Rattle.std.specs.Prelude.{◌≡◌, slice_get};
-ghost use Rattle.polarised_formulas.specs.declared.logic.Logic.TheVariants.{Lkf};
-ghost use Rattle.polarised_formulas.specs.Formula.{IsLkf};
-ghost use Rattle.polarised_formulas.specs.Step.{IsProperStep};
 ghost use Rattle.lkf_rules.specs.Premises.{decided, chosen};
-ghost use Rattle.lkf_rules.specs.Values.{Gives};
+ghost use Rattle.lkf_rules.specs.Values.{Gives, Answers};
 
 use crate::rules::outcome::{Premises, StepRefusal, one_down, only, two_up};
+use crate::scope::may_be_cut;
 use polarised_formulas::dual::dual;
 use polarised_formulas::formula::Formula;
 use polarised_formulas::list::Formulas;
 use polarised_formulas::logic::Polarity;
-use polarised_formulas::scope::has_eigen_at_least;
 use polarised_formulas::shape::polarity;
 use polarised_formulas::step::Step;
 use std::alloc::Global;
 
 /// The step `decide k`: the positive formula at place k of the stored ones comes under focus.
-fn decide(level: u64, stored: &Formulas, k: u64) -> Result<Premises, StepRefusal>
+pub(crate) fn decide(level: u64, stored: &Formulas, k: u64) -> Result<Premises, StepRefusal>
     ensures { Gives result (decided level stored.now (slice_get stored.now k)) }
 {
     if k >= stored.len() as u64 {
@@ -31,36 +28,19 @@ fn decide(level: u64, stored: &Formulas, k: u64) -> Result<Premises, StepRefusal
 }
 
 /// The step `cut B`: a formula of LKF that is in scope at the level is worked on in the first premise, and its dual in the second one.
-fn cut(
+#[tactic(auto, using(crate::proofs::StepFacts::cut_facts))]
+pub(crate) fn cut(
     alloc: Global,
     level: u64,
     stored: &Formulas,
     formula: &Formula,
 ) -> Result<Premises, StepRefusal>
-    requires { IsLkf formula.now }
-    ensures { Gives result (chosen (Step.Cut formula.now) level stored.now) }
+    ensures { Answers (Step.Cut formula.now) result (chosen (Step.Cut formula.now) level stored.now) }
 {
-    if has_eigen_at_least(formula, level) {
+    if !may_be_cut(alloc, formula, level)? {
         return Err(StepRefusal::DoesNotFit);
     }
     let first = only(alloc, formula.copy()?)?;
     let second = only(alloc, dual(alloc, formula)?)?;
     two_up(level, stored, first, second)
-}
-
-/// The premises of a step at a sequent with nothing left to work on.
-pub(crate) fn chosen_premises(
-    alloc: Global,
-    level: u64,
-    stored: &Formulas,
-    step: &Step,
-) -> Result<Premises, StepRefusal>
-    requires { IsProperStep Lkf step.now }
-    ensures { Gives result (chosen step.now level stored.now) }
-{
-    match step {
-        Step::Decide(k) => decide(level, stored, *k),
-        Step::Cut(formula) => cut(alloc, level, stored, formula),
-        _ => Err(StepRefusal::DoesNotFit),
-    }
 }

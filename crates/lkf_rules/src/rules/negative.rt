@@ -1,6 +1,6 @@
 //! The steps of the negative phase that work on the first formula.
-ghost use Rattle.std.specs.Prelude.{◌≡◌, ℕ, ◌<◌, ◌-◌, ◌^◌, List};
-ghost use Rattle.polarised_formulas.specs.Formula.{Formula};
+ghost use Rattle.std.specs.Prelude.{◌≡◌, ◌<◌, ◌-◌, ◌^◌};
+ghost use Rattle.polarised_formulas.specs.Formula.{falsity, root_node};
 ghost use Rattle.lkf_rules.specs.Premises.{worked};
 ghost use Rattle.lkf_rules.specs.Values.{Gives};
 
@@ -14,109 +14,80 @@ use polarised_formulas::logic::Polarity;
 use polarised_formulas::node::Node;
 use polarised_formulas::opening::open_with;
 use polarised_formulas::parts::parts;
-use polarised_formulas::shape::outermost;
 use polarised_formulas::step::Step;
 use std::alloc::Global;
 
-/// The step `tt-`: the negative `tt` closes the branch.
-fn true_negative(first: &Formula) -> Result<Premises, StepRefusal>
-    ensures { (n : ℕ) (s g : List Formula) → Gives result (worked Step.TrueN n s first.now g) }
-{
-    match outermost(first) {
-        Node::True(Polarity::Negative) => Ok(Premises::None),
-        _ => Err(StepRefusal::DoesNotFit),
-    }
-}
-
 /// The step `ff-`: the negative `ff` is dropped.
-fn false_negative(
+pub(crate) fn false_negative(
     alloc: Global,
     level: u64,
     stored: &Formulas,
-    first: &Formula,
     rest: &[Formula],
 ) -> Result<Premises, StepRefusal>
-    ensures { Gives result (worked Step.FalseN level stored.now first.now rest.now) }
+    ensures { Gives result (worked Step.FalseN level stored.now (falsity Polarity.Negative) rest.now) }
 {
-    match outermost(first) {
-        Node::False(Polarity::Negative) => {
-            let work = Formulas::new(alloc).extended(rest)?;
-            one_up(level, stored, work)
-        }
-        _ => Err(StepRefusal::DoesNotFit),
-    }
+    let work = Formulas::new(alloc).extended(rest)?;
+    one_up(level, stored, work)
 }
 
 /// The step `or-`: both parts of a negative disjunction are worked on, one after the other.
-fn or_negative(
+pub(crate) fn or_negative(
     alloc: Global,
     level: u64,
     stored: &Formulas,
     first: &Formula,
     rest: &[Formula],
 ) -> Result<Premises, StepRefusal>
+    requires { root_node first.now ≡ Node.Or Polarity.Negative }
     ensures { Gives result (worked Step.OrN level stored.now first.now rest.now) }
 {
-    match outermost(first) {
-        Node::Or(Polarity::Negative) => {
-            let (a, b) = parts(alloc, first)?;
-            let mut front = Formulas::new(alloc);
-            front.push(a)?;
-            front.push(b)?;
-            let work = front.extended(rest)?;
-            one_up(level, stored, work)
-        }
-        _ => Err(StepRefusal::DoesNotFit),
-    }
+    let (a, b) = parts(alloc, first)?;
+    let mut front = Formulas::new(alloc);
+    front.push(a)?;
+    front.push(b)?;
+    let work = front.extended(rest)?;
+    one_up(level, stored, work)
 }
 
 /// The step `and-`: each part of a negative conjunction is worked on in a premise of its own.
-fn and_negative(
+pub(crate) fn and_negative(
     alloc: Global,
     level: u64,
     stored: &Formulas,
     first: &Formula,
     rest: &[Formula],
 ) -> Result<Premises, StepRefusal>
+    requires { root_node first.now ≡ Node.And Polarity.Negative }
     ensures { Gives result (worked Step.AndN level stored.now first.now rest.now) }
 {
-    match outermost(first) {
-        Node::And(Polarity::Negative) => {
-            let (a, b) = parts(alloc, first)?;
-            let first = with_first(alloc, a, rest)?;
-            let second = with_first(alloc, b, rest)?;
-            two_up(level, stored, first, second)
-        }
-        _ => Err(StepRefusal::DoesNotFit),
-    }
+    let (a, b) = parts(alloc, first)?;
+    let first = with_first(alloc, a, rest)?;
+    let second = with_first(alloc, b, rest)?;
+    two_up(level, stored, first, second)
 }
 
 /// The step `all`: the body of a universal formula is worked on with the eigenvariable that has the level as its number. That is fresh, since the
 /// sequent's own are below the level.
 #[tactic(auto, using(crate::proofs::StepFacts::step_facts))]
-fn every(
+pub(crate) fn every(
     alloc: Global,
     level: u64,
     stored: &Formulas,
     first: &Formula,
     rest: &[Formula],
 ) -> Result<Premises, StepRefusal>
-    requires { level < 2 ^ 64 - 1 }
+    requires level { level < 2 ^ 64 - 1 }
+    requires first { root_node first.now ≡ Node.ForAll }
     ensures { Gives result (worked Step.Every level stored.now first.now rest.now) }
 {
-    match outermost(first) {
-        Node::ForAll => {
-            let eigenvariable = TermBuf::from_cells(alloc, &[Cell::Eigen(level)])?;
-            let body = open_with(alloc, first, &eigenvariable)?;
-            let work = with_first(alloc, body, rest)?;
-            one_up(level + 1, stored, work)
-        }
-        _ => Err(StepRefusal::DoesNotFit),
-    }
+    let eigenvariable = TermBuf::from_cells(alloc, &[Cell::Eigen(level)])?;
+    let body = open_with(alloc, first, &eigenvariable)?;
+    let work = with_first(alloc, body, rest)?;
+    one_up(level + 1, stored, work)
 }
 
 /// The step `store`: a positive formula or a negative literal goes to the end of the stored formulas.
-fn store(
+pub(crate) fn store(
     alloc: Global,
     level: u64,
     stored: &Formulas,
@@ -132,27 +103,4 @@ fn store(
     more.push(first.copy()?)?;
     let work = Formulas::new(alloc).extended(rest)?;
     one_up(level, &more, work)
-}
-
-/// The premises of a step of the negative phase at the first worked formula, which is `first`.
-pub(crate) fn worked_premises(
-    alloc: Global,
-    level: u64,
-    stored: &Formulas,
-    first: &Formula,
-    rest: &[Formula],
-    step: &Step,
-) -> Result<Premises, StepRefusal>
-    requires { level < 2 ^ 64 - 1 }
-    ensures { Gives result (worked step.now level stored.now first.now rest.now) }
-{
-    match step {
-        Step::TrueN => true_negative(first),
-        Step::FalseN => false_negative(alloc, level, stored, first, rest),
-        Step::OrN => or_negative(alloc, level, stored, first, rest),
-        Step::AndN => and_negative(alloc, level, stored, first, rest),
-        Step::Every => every(alloc, level, stored, first, rest),
-        Step::Store => store(alloc, level, stored, first, rest),
-        _ => Err(StepRefusal::DoesNotFit),
-    }
 }

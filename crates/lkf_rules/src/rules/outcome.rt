@@ -22,7 +22,7 @@ pub enum Premises {
 pub enum StepRefusal {
     /// The step names no instance of a rule at the sequent.
     DoesNotFit,
-    /// The step fits, and there was no memory for the premises.
+    /// There was no memory: the step fits, or it is a `cut` whose formula was not tested to its end.
     OutOfMemory,
 }
 

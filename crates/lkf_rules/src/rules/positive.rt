@@ -1,14 +1,11 @@
 //! The steps of the positive phase, on the formula under focus.
-ghost use Rattle.std.specs.Prelude.{◌≡◌, ℕ, List, slice_get};
-ghost use Rattle.fpc_terms.specs.Term.{IsProperTerm, Always};
-ghost use Rattle.polarised_formulas.specs.declared.logic.Logic.TheVariants.{Lkf};
-ghost use Rattle.polarised_formulas.specs.Step.{IsProperStep};
-ghost use Rattle.polarised_formulas.specs.Formula.{Formula};
+ghost use Rattle.std.specs.Prelude.{◌≡◌, ℕ, true, slice_get};
+ghost use Rattle.polarised_formulas.specs.Formula.{root_node};
 ghost use Rattle.lkf_rules.specs.Premises.{focused, closed_with};
 ghost use Rattle.lkf_rules.specs.Values.{Gives};
 
 use crate::rules::outcome::{Premises, StepRefusal, one_down, one_up, only, two_down};
-use fpc_terms::scope::has_eigen_at_least;
+use crate::scope::is_in_scope;
 use fpc_terms::term::TermBuf;
 use polarised_formulas::dual::is_dual;
 use polarised_formulas::formula::Formula;
@@ -17,86 +14,63 @@ use polarised_formulas::logic::{Polarity, Side};
 use polarised_formulas::node::Node;
 use polarised_formulas::opening::open_with;
 use polarised_formulas::parts::parts;
-use polarised_formulas::shape::{outermost, polarity};
+use polarised_formulas::shape::polarity;
 use polarised_formulas::step::Step;
 use std::alloc::Global;
 
-/// The step `tt+`: the positive `tt` closes the branch.
-fn true_positive(focus: &Formula) -> Result<Premises, StepRefusal>
-    ensures { (n : ℕ) (s : List Formula) → Gives result (focused Step.TrueP n s focus.now) }
-{
-    match outermost(focus) {
-        Node::True(Polarity::Positive) => Ok(Premises::None),
-        _ => Err(StepRefusal::DoesNotFit),
-    }
-}
-
 /// The step `and+`: each part of a positive conjunction comes under focus in a premise of its own.
-fn and_positive(
+pub(crate) fn and_positive(
     alloc: Global,
     level: u64,
     stored: &Formulas,
     focus: &Formula,
 ) -> Result<Premises, StepRefusal>
+    requires { root_node focus.now ≡ Node.And Polarity.Positive }
     ensures { Gives result (focused Step.AndP level stored.now focus.now) }
 {
-    match outermost(focus) {
-        Node::And(Polarity::Positive) => {
-            let (a, b) = parts(alloc, focus)?;
-            two_down(level, stored, a, b)
-        }
-        _ => Err(StepRefusal::DoesNotFit),
-    }
+    let (a, b) = parts(alloc, focus)?;
+    two_down(level, stored, a, b)
 }
 
 /// The step `or+`: the part of a positive disjunction on the side that the step names stays under focus.
-fn or_positive(
+pub(crate) fn or_positive(
     alloc: Global,
     level: u64,
     stored: &Formulas,
     focus: &Formula,
     side: Side,
 ) -> Result<Premises, StepRefusal>
+    requires { root_node focus.now ≡ Node.Or Polarity.Positive }
     ensures { Gives result (focused (Step.OrP side) level stored.now focus.now) }
 {
-    match outermost(focus) {
-        Node::Or(Polarity::Positive) => {
-            let (a, b) = parts(alloc, focus)?;
-            match side {
-                Side::Left => one_down(level, stored, a),
-                Side::Right => one_down(level, stored, b),
-            }
-        }
-        _ => Err(StepRefusal::DoesNotFit),
+    let (a, b) = parts(alloc, focus)?;
+    match side {
+        Side::Left => one_down(level, stored, a),
+        Side::Right => one_down(level, stored, b),
     }
 }
 
 /// The step `some t`: the body of an existential formula stays under focus with a term that is in scope at the level.
 #[tactic(auto, using(crate::proofs::StepFacts::step_facts))]
-fn some(
+pub(crate) fn some(
     alloc: Global,
     level: u64,
     stored: &Formulas,
     focus: &Formula,
     term: &TermBuf,
 ) -> Result<Premises, StepRefusal>
-    requires { IsProperTerm Always term.now }
+    requires { root_node focus.now ≡ Node.Exists }
     ensures { Gives result (focused (Step.Exists term.now) level stored.now focus.now) }
 {
-    if has_eigen_at_least(term, level) {
+    if !is_in_scope(term, level) {
         return Err(StepRefusal::DoesNotFit);
     }
-    match outermost(focus) {
-        Node::Exists => {
-            let body = open_with(alloc, focus, term)?;
-            one_down(level, stored, body)
-        }
-        _ => Err(StepRefusal::DoesNotFit),
-    }
+    let body = open_with(alloc, focus, term)?;
+    one_down(level, stored, body)
 }
 
 /// The step `release`: a negative formula leaves the focus and is worked on.
-fn release(
+pub(crate) fn release(
     alloc: Global,
     level: u64,
     stored: &Formulas,
@@ -115,7 +89,8 @@ fn release(
 
 /// The step `init k`: a positive literal under focus closes with its dual at place k of the stored formulas.
 #[tactic(auto, using(crate::proofs::InitialFacts::initial_facts))]
-fn initial(stored: &Formulas, focus: &Formula, k: u64) -> Result<Premises, StepRefusal>
+pub(crate) fn initial(stored: &Formulas, focus: &Formula, k: u64) -> Result<Premises, StepRefusal>
+    requires { (name n : ℕ) × (root_node focus.now ≡ Node.Atom true name n) }
     ensures { Gives result (closed_with focus.now (slice_get stored.now k)) }
 {
     if k >= stored.len() as u64 {
@@ -124,30 +99,5 @@ fn initial(stored: &Formulas, focus: &Formula, k: u64) -> Result<Premises, StepR
     if !is_dual(focus, stored.get(k as usize)) {
         return Err(StepRefusal::DoesNotFit);
     }
-    match outermost(focus) {
-        Node::Atom { positive: true, .. } => Ok(Premises::None),
-        _ => Err(StepRefusal::DoesNotFit),
-    }
-}
-
-/// The premises of a step of the positive phase at the formula under focus.
-pub(crate) fn focused_premises(
-    alloc: Global,
-    level: u64,
-    stored: &Formulas,
-    focus: &Formula,
-    step: &Step,
-) -> Result<Premises, StepRefusal>
-    requires { IsProperStep Lkf step.now }
-    ensures { Gives result (focused step.now level stored.now focus.now) }
-{
-    match step {
-        Step::TrueP => true_positive(focus),
-        Step::AndP => and_positive(alloc, level, stored, focus),
-        Step::OrP(side) => or_positive(alloc, level, stored, focus, *side),
-        Step::Exists(term) => some(alloc, level, stored, focus, term),
-        Step::Release => release(alloc, level, stored, focus),
-        Step::Init(k) => initial(stored, focus, *k),
-        _ => Err(StepRefusal::DoesNotFit),
-    }
+    Ok(Premises::None)
 }

@@ -1,5 +1,4 @@
-use Rattle.std.proofs.Common.{refl, arith}
-use Rattle.std.proofs.lemmas.Grind.{common_steps}
+use Rattle.std.proofs.Common.{refl}
 use Rattle.fpc_terms.proofs.HoldingFacts.{takes-open, named-room}
 use Rattle.fpc_terms.proofs.reader.TermReader.open_application.Goals as goal
 

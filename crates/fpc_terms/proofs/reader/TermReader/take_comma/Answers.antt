@@ -1,5 +1,5 @@
 use Rattle.std.proofs.Common.{refl}
-use Rattle.fpc_terms.proofs.HoldingFacts.{takes-comma, refuses-comma}
+use Rattle.fpc_terms.proofs.HoldingFacts.{takes-comma}
 use Rattle.fpc_terms.proofs.reader.TermReader.take_comma.Goals as goal
 
 pub returns : goal.returns

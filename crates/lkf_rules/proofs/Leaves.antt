@@ -1,9 +1,10 @@
--- The leaves of terms and formulas under opening, under the dual and under the tests for eigenvariables.
-use Rattle.std.proofs.Common.{◌≡◌, ℕ, suc, ◌<◌, Bool, true, false, ◌||◌, nat_eq, if◌then◌else◌, refl, arith}
+-- The leaves of terms and formulas under opening, under the dual and under the tests of scope.
+use Rattle.std.proofs.Common.{◌≡◌, ℕ, suc, ◌<◌, Bool, true, false, nat_eq, if◌then◌else◌, refl, arith}
 use Rattle.std.proofs.lemmas.Bool.Decides.{nat_tests}
-use Rattle.fpc_terms.specs.Term.{Term, eigen, bound, variable, app, Args, no_args, arg, Each, EachArg, Never, Always, IsProperTerm, has_eigen_from, any_has_eigen_from, open_term, open_args, same_term, same_args}
-use Rattle.polarised_formulas.specs.Formula.{Formula, truth, falsity, atom, conj, disj, implies, for_all, exists, dual_of, open_at, has_eigen_in, EachInside, Tied, IsLkf}
-use Rattle.lkf_rules.proofs.Lists.{or_parts}
+use Rattle.std.proofs.lemmas.Bool.{and_parts}
+use Rattle.fpc_terms.specs.Term.{Term, eigen, bound, variable, app, Args, no_args, arg, Each, EachArg, Never, IsProperTerm, InScope, open_term, open_args, same_term, same_args}
+use Rattle.polarised_formulas.specs.Formula.{Formula, truth, falsity, atom, conj, disj, implies, for_all, exists, dual_of, open_at, EachInside, Tied, IsLkf}
+use Rattle.lkf_rules.specs.Scope.{is_scoped, are_scoped, may_be_cut}
 
 -- what follows of each leaf of a term
 module _ (e f b c v : ℕ → Type 0) (he : (n : ℕ) → e n → f n) (hb : (n : ℕ) → b n → c n) where
@@ -70,33 +71,78 @@ module _ (e : ℕ → Type 0) where
   EachInside-dual_of d (for_all a) h = EachInside-dual_of (suc d) a h
   EachInside-dual_of d (exists a) h = EachInside-dual_of (suc d) a h
 
--- where no eigenvariable is n or above, each is below n
+-- the tests of scope, both ways
 module _ (n : ℕ) where
   mutual
-    pub Each-below : (b : ℕ → Type 0) (t : Term) → has_eigen_from n t ≡ false → Each Always b Never t → Each (λ m. m < n) b Never t
-    Each-below b (eigen m) none h = grind (arith, nat_tests)
-    Each-below b (bound k) none h = h
-    Each-below b (variable v) none h = h
-    Each-below b (app f ts) none h = EachArg-below b ts none h
+    -- what passes the test is in scope
+    pub Each-is_scoped : (d : ℕ) (t : Term) → is_scoped n d t ≡ true → Each (λ m. m < n) (Tied d) Never t
+    Each-is_scoped d (eigen m) passes = grind (arith, nat_tests)
+    Each-is_scoped d (bound k) passes = grind (arith, nat_tests)
+    Each-is_scoped d (variable v) passes = cc
+    Each-is_scoped d (app f ts) passes = EachArg-are_scoped d ts passes
 
-    pub EachArg-below : (b : ℕ → Type 0) (ts : Args) → any_has_eigen_from n ts ≡ false → EachArg Always b Never ts → EachArg (λ m. m < n) b Never ts
-    EachArg-below b no_args none h = tt
-    EachArg-below b (arg t ts) none h =
-        let parts = or_parts (has_eigen_from n t) (any_has_eigen_from n ts) none in (Each-below b t parts.0 h.0, EachArg-below b ts parts.1 h.1)
+    pub EachArg-are_scoped : (d : ℕ) (ts : Args) → are_scoped n d ts ≡ true → EachArg (λ m. m < n) (Tied d) Never ts
+    EachArg-are_scoped d no_args passes = tt
+    EachArg-are_scoped d (arg t ts) passes =
+        let parts = and_parts (is_scoped n d t) (are_scoped n d ts) passes in (Each-is_scoped d t parts.0, EachArg-are_scoped d ts parts.1)
 
-  -- the test fails of both parts
-  both_below : (a b : Formula) → (has_eigen_in n a || has_eigen_in n b) ≡ false → (has_eigen_in n a ≡ false) × (has_eigen_in n b ≡ false)
-  both_below a b none = or_parts (has_eigen_in n a) (has_eigen_in n b) none
+  mutual
+    -- what is in scope passes the test
+    pub is_scoped-each : (d : ℕ) (t : Term) → Each (λ m. m < n) (Tied d) Never t → is_scoped n d t ≡ true
+    is_scoped-each d (eigen m) h = grind (arith, nat_tests)
+    is_scoped-each d (bound k) h = grind (arith, nat_tests)
+    is_scoped-each d (variable v) h = absurd h
+    is_scoped-each d (app f ts) h = are_scoped-each d ts h
 
-  pub EachInside-below : (d : ℕ) (a : Formula) → has_eigen_in n a ≡ false → EachInside Always Tied Never d a → EachInside (λ m. m < n) Tied Never d a
-  EachInside-below d (truth p) none h = tt
-  EachInside-below d (falsity p) none h = tt
-  EachInside-below d (atom positive name ts) none h = EachArg-below (Tied d) ts none h
-  EachInside-below d (conj p a b) none h = let parts = both_below a b none in (EachInside-below d a parts.0 h.0, EachInside-below d b parts.1 h.1)
-  EachInside-below d (disj p a b) none h = let parts = both_below a b none in (EachInside-below d a parts.0 h.0, EachInside-below d b parts.1 h.1)
-  EachInside-below d (implies a b) none h = let parts = both_below a b none in (EachInside-below d a parts.0 h.0, EachInside-below d b parts.1 h.1)
-  EachInside-below d (for_all a) none h = EachInside-below (suc d) a none h
-  EachInside-below d (exists a) none h = EachInside-below (suc d) a none h
+    pub are_scoped-each : (d : ℕ) (ts : Args) → EachArg (λ m. m < n) (Tied d) Never ts → are_scoped n d ts ≡ true
+    are_scoped-each d no_args h = refl
+    are_scoped-each d (arg t ts) h = rw (is_scoped-each d t h.0, are_scoped-each d ts h.1)
+
+  -- a term that passes the test is in scope
+  pub InScope-is_scoped : (t : Term) → is_scoped n 0 t ≡ true → InScope n t
+  InScope-is_scoped t passes =
+      Each-weaker (λ m. m < n) (λ m. m < n) (Tied 0) Never Never (λ m x. x) (λ k (x : k < 0). omega arith) t (Each-is_scoped 0 t passes)
+
+  -- a term in scope passes the test
+  pub is_scoped-in_scope : (t : Term) → InScope n t → is_scoped n 0 t ≡ true
+  is_scoped-in_scope t h = is_scoped-each 0 t (Each-weaker (λ m. m < n) (λ m. m < n) Never (Tied 0) Never (λ m x. x) (λ k x. absurd x) t h)
+
+  -- a formula that passes the test has its leaves in scope
+  pub EachInside-may_be_cut : (d : ℕ) (a : Formula) → may_be_cut n d a ≡ true → EachInside (λ m. m < n) Tied Never d a
+  EachInside-may_be_cut d (truth p) passes = tt
+  EachInside-may_be_cut d (falsity p) passes = tt
+  EachInside-may_be_cut d (atom positive name ts) passes = EachArg-are_scoped d ts passes
+  EachInside-may_be_cut d (conj p a b) passes =
+      let parts = and_parts (may_be_cut n d a) (may_be_cut n d b) passes in (EachInside-may_be_cut d a parts.0, EachInside-may_be_cut d b parts.1)
+  EachInside-may_be_cut d (disj p a b) passes =
+      let parts = and_parts (may_be_cut n d a) (may_be_cut n d b) passes in (EachInside-may_be_cut d a parts.0, EachInside-may_be_cut d b parts.1)
+  EachInside-may_be_cut d (implies a b) passes = cc
+  EachInside-may_be_cut d (for_all a) passes = EachInside-may_be_cut (suc d) a passes
+  EachInside-may_be_cut d (exists a) passes = EachInside-may_be_cut (suc d) a passes
+
+  -- and it is of LKF
+  pub IsLkf-may_be_cut : (d : ℕ) (a : Formula) → may_be_cut n d a ≡ true → IsLkf a
+  IsLkf-may_be_cut d (truth p) passes = tt
+  IsLkf-may_be_cut d (falsity p) passes = tt
+  IsLkf-may_be_cut d (atom positive name ts) passes = tt
+  IsLkf-may_be_cut d (conj p a b) passes =
+      let parts = and_parts (may_be_cut n d a) (may_be_cut n d b) passes in (IsLkf-may_be_cut d a parts.0, IsLkf-may_be_cut d b parts.1)
+  IsLkf-may_be_cut d (disj p a b) passes =
+      let parts = and_parts (may_be_cut n d a) (may_be_cut n d b) passes in (IsLkf-may_be_cut d a parts.0, IsLkf-may_be_cut d b parts.1)
+  IsLkf-may_be_cut d (implies a b) passes = cc
+  IsLkf-may_be_cut d (for_all a) passes = IsLkf-may_be_cut (suc d) a passes
+  IsLkf-may_be_cut d (exists a) passes = IsLkf-may_be_cut (suc d) a passes
+
+  -- a formula of LKF with its leaves in scope passes the test
+  pub may_be_cut-each : (d : ℕ) (a : Formula) → EachInside (λ m. m < n) Tied Never d a → IsLkf a → may_be_cut n d a ≡ true
+  may_be_cut-each d (truth p) h lkf = refl
+  may_be_cut-each d (falsity p) h lkf = refl
+  may_be_cut-each d (atom positive name ts) h lkf = are_scoped-each d ts h
+  may_be_cut-each d (conj p a b) h lkf = rw (may_be_cut-each d a h.0 lkf.0, may_be_cut-each d b h.1 lkf.1)
+  may_be_cut-each d (disj p a b) h lkf = rw (may_be_cut-each d a h.0 lkf.0, may_be_cut-each d b h.1 lkf.1)
+  may_be_cut-each d (implies a b) h lkf = absurd lkf
+  may_be_cut-each d (for_all a) h lkf = may_be_cut-each (suc d) a h lkf
+  may_be_cut-each d (exists a) h lkf = may_be_cut-each (suc d) a h lkf
 
 -- opening keeps a formula of LKF
 pub IsLkf-open_at : (k : ℕ) (t : Term) (a : Formula) → IsLkf a → IsLkf (open_at k t a)
