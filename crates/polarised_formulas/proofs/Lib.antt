@@ -19,6 +19,7 @@ pub mod FormulaReading
 pub mod ProblemLaws
 pub mod ProblemLimits
 pub mod ProblemReading
+pub mod ReadFacts
 pub mod Pieces
 pub mod Scan
 pub mod Meant

@@ -1,11 +1,14 @@
 -- How a token is taken with a table of names that grows, and how a formula is read.
-use Rattle.std.specs.Prelude.{◌≡◌, ℕ, Bool, true, false, List, [], ◌∷◌, Option, Some, None, Result, Ok, Err, refl, slice_get, is_some}
+use Rattle.std.specs.Prelude.{◌≡◌, ℕ, Bool, not, true, false, List, [], ◌∷◌, Option, Some, None, Result, Ok, Err, refl, slice_get, is_some}
 use Rattle.std.proofs.Common.{ap, sym, ◌∙◌, subst}
 use Rattle.fpc_base.specs.declared.refusal.Code.{Code}
 use Rattle.fpc_base.specs.declared.refusal.Code.TheVariants.{Unexpected}
 use Rattle.fpc_base.specs.declared.refusal.Refusal.{Refusal}
 use Rattle.fpc_base.specs.declared.refusal.ParseRefusal.TheVariants as parse
 use Rattle.fpc_base.specs.declared.tokens.lexeme.Sign.TheVariants.{OpenParenthesis}
+use Rattle.std.proofs.lemmas.Bool.{and_parts}
+use Rattle.fpc_base.specs.Refusal.{placed}
+use Rattle.fpc_terms.specs.Machine.{is_open}
 use Rattle.fpc_base.specs.declared.refusal.TokenRefusal.{TokenRefusal}
 use Rattle.fpc_base.specs.declared.refusal.TokenRefusal.TheVariants.{Refused, OutOfMemory}
 use Rattle.fpc_base.specs.Lexeme.{Lexeme, a_sign, Item, says, fault}
@@ -18,7 +21,7 @@ use Rattle.polarised_formulas.specs.Written.{WrittenFormula, literal}
 use Rattle.polarised_formulas.specs.Place.{Place, whole}
 use Rattle.polarised_formulas.specs.Machine.{FormulaState, wants, marked, binding, bound_to, named, in_atom, has, stuck, after, limited, within, is_full, whole_of, is_ended, ended_at}
 use Rattle.polarised_formulas.specs.Holding.{Holds, Takes}
-use Rattle.polarised_formulas.specs.ReadFormula.{HoldsFor, TakesFor, IsFormulaRefusal, Leads}
+use Rattle.polarised_formulas.specs.ReadFormula.{HoldsFor, TakesFor, IsFormulaRefusal, Leads, ends_before}
 use Rattle.polarised_formulas.proofs.FormulaLaws.{after-whole}
 use Rattle.polarised_formulas.proofs.FormulaReading.{ReadsFormula, IsAt, IsAt-start, IsAt-taken, IsAt-refused, IsAt-fault, IsAt-whole, IsAt-unfinished, IsAt-ends, IsAt-final}
 
@@ -61,6 +64,14 @@ pub ends-told : (logic : Logic) (parameters : List (List ℕ)) (s : FormulaState
 ends-told logic parameters (named positive x p) w c e n = named-ends logic parameters positive x p w c e n
 ends-told logic parameters (has u p) w c e n = ap (λ (v : FormulaState). within false (is_full v) v) (after-whole logic u p w c e)
 ends-told logic parameters _ w c e n = let z : ⊥ = cc in absurd z
+
+goes-on : (s : FormulaState) (c : Lexeme) → ends_before s c ≡ false → is_some (whole_of s) ≡ true → c ≡ a_sign OpenParenthesis
+goes-on s (a_sign OpenParenthesis) o w = refl
+goes-on s _ o w = let n : ⊥ = cc in absurd n
+
+not-open : (c : Lexeme) → not (is_open c) ≡ true → c ≡ a_sign OpenParenthesis → ⊥
+not-open (a_sign OpenParenthesis) e o = let n : ⊥ = cc in absurd n
+not-open _ e o = cc
 
 ended-whole : (s : FormulaState) → is_ended s ≡ true → (w : WrittenFormula) × (whole_of s ≡ Some w)
 ended-whole (has u p) f = some-of (ended_at u p) f
@@ -111,14 +122,15 @@ module _ (logic : Logic) (parameters : List (List ℕ)) where
     pub tells : AreDifferent names → Holds (index_in names) logic parameters on.state r
     tells d = on.holds (index_in names) (Agrees-index_in names d)
 
-    pub IsOn-refused : (rest : List Item) (c : Lexeme) (at : ℕ) (more : List (List ℕ)) (new : FormulaReader) (code : Code) → all ≡ says c at ∷ rest
-        → ((s : FormulaState) → HoldsFor names logic parameters s r → TakesFor (Err (Refused code)) more logic parameters (limited logic parameters s c) new)
-        → is_ended on.state ≡ false → (is_some (whole_of on.state) ≡ true → c ≡ a_sign OpenParenthesis)
-        → IsFormulaRefusal logic parameters items n (parse.Refused (record { code = code; at = at }))
-    IsOn-refused rest c at more new code e t f o =
+    pub IsOn-refused : (rest : List Item) (c : Lexeme) (at : ℕ) (more : List (List ℕ)) (new : FormulaReader) (refusal : TokenRefusal) → all ≡ says c at ∷ rest
+        → ((s : FormulaState) → HoldsFor names logic parameters s r → TakesFor (Err refusal) more logic parameters (limited logic parameters s c) new)
+        → is_ended on.state ≡ false → ends_before on.state c ≡ false
+        → IsFormulaRefusal logic parameters items n (placed refusal at)
+    IsOn-refused rest c at more new (Refused code) e t f o =
         let i : IsAt logic parameters n items (says c at ∷ rest) on.state = rw e at on.at in
         let l : limited logic parameters on.state c ≡ Err code = t on.state on.holds in
-        IsAt-refused logic parameters n items rest on.state c at code i l (λ u. unwhole logic parameters on.state c code f o l (is_some (whole_of on.state)) refl)
+        IsAt-refused logic parameters n items rest on.state c at code i l (λ u. unwhole logic parameters on.state c code f (goes-on on.state c o) l (is_some (whole_of on.state)) refl)
+    IsOn-refused rest c at more new OutOfMemory e t f o = tt
 
     pub IsOn-fault : (rest : List Item) (refusal : Refusal) → all ≡ fault refusal ∷ rest → is_ended on.state ≡ false → IsFormulaRefusal logic parameters items n (parse.Refused refusal)
     IsOn-fault rest refusal e f = IsAt-fault logic parameters n items rest on.state refusal (rw e at on.at) f
@@ -134,9 +146,10 @@ module _ (logic : Logic) (parameters : List (List ℕ)) where
         let s : (v : WrittenFormula) × (whole_of on.state ≡ Some v) = some-of (whole_of on.state) w in
         leads s.0 s.1 (rw e (IsAt-whole logic parameters n items on.state s.0 (rw e at on.at) s.1))
 
-    pub IsOn-ends : (rest : List Item) (c : Lexeme) (at : ℕ) → all ≡ says c at ∷ rest → is_some (whole_of on.state) ≡ true → (c ≡ a_sign OpenParenthesis → ⊥) → Leads logic parameters items all names r
-    IsOn-ends rest c at e w o =
-        let s : (v : WrittenFormula) × (whole_of on.state ≡ Some v) = some-of (whole_of on.state) w in
+    pub IsOn-ends : (rest : List Item) (c : Lexeme) (at : ℕ) → all ≡ says c at ∷ rest → ends_before on.state c ≡ true → Leads logic parameters items all names r
+    IsOn-ends rest c at e w =
+        let s : (v : WrittenFormula) × (whole_of on.state ≡ Some v) = some-of (whole_of on.state) (and_parts (is_some (whole_of on.state)) (not (is_open c)) w).0 in
+        let o = not-open c (and_parts (is_some (whole_of on.state)) (not (is_open c)) w).1 in
         leads s.0 s.1 (rw e (IsAt-ends logic parameters n items rest on.state s.0 c at (rw e at on.at) s.1 (ends-told logic parameters on.state s.0 c s.1 o)))
 
     pub IsOn-final : is_ended on.state ≡ true → Leads logic parameters items all names r

@@ -9,6 +9,9 @@ pub mod Unfinished
 pub mod Written
 pub mod Place
 pub mod Machine
+pub mod Bound
+pub mod Holding
+pub mod ReadFormula
 pub mod WrittenOf
 pub mod Size
 pub mod Spoken

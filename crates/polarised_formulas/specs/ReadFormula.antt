@@ -1,12 +1,13 @@
 -- What is read of a formula, and how it is refused.
-use Rattle.std.specs.Prelude.{◌≡◌, ℕ, List, [], Option, Some, Result, Ok, Err}
+use Rattle.std.specs.Prelude.{◌≡◌, ℕ, Bool, ◌&&◌, not, is_some, List, [], Option, Some, Result, Ok, Err}
 use Rattle.fpc_base.specs.declared.refusal.Code.{Code}
 use Rattle.fpc_base.specs.declared.refusal.ParseRefusal.{ParseRefusal}
 use Rattle.fpc_base.specs.declared.refusal.ParseRefusal.TheVariants as parse
 use Rattle.fpc_base.specs.declared.refusal.TokenRefusal.{TokenRefusal}
 use Rattle.fpc_base.specs.declared.refusal.TokenRefusal.TheVariants as token
-use Rattle.fpc_base.specs.Lexeme.{Item}
+use Rattle.fpc_base.specs.Lexeme.{Lexeme, Item}
 use Rattle.fpc_base.specs.Reading.{ReadsFront, RefusesFront}
+use Rattle.fpc_terms.specs.Machine.{is_open}
 use Rattle.fpc_terms.specs.Name.{Agrees}
 use Rattle.polarised_formulas.specs.declared.logic.Logic.{Logic}
 use Rattle.polarised_formulas.specs.declared.reader.FormulaReader.{FormulaReader}
@@ -26,6 +27,10 @@ pub record FormulaIsRead (logic : Logic) (parameters : List (List ℕ)) (items r
 abbrev pub IsFormulaRefusal : Logic → List (List ℕ) → List Item → ℕ → ParseRefusal → Type 0
 IsFormulaRefusal logic parameters items n (parse.Refused r) = RefusesFront (IsFormula logic parameters) (FormulaLimits logic parameters) n [] items r
 IsFormulaRefusal logic parameters items n parse.OutOfMemory = Unit {0}
+
+-- the formula is whole, and the token doesn't begin the arguments of an atom at its end
+abbrev pub ends_before : FormulaState → Lexeme → Bool
+ends_before s c = is_some (whole_of s) && not (is_open c)
 
 -- the reader holds the state, for all numberings that agree with the table
 abbrev pub HoldsFor : List (List ℕ) → Logic → List (List ℕ) → FormulaState → FormulaReader → Type 0

@@ -5,7 +5,9 @@ ghost use Rattle.fpc_base.specs.Tokens.{source_of};
 ghost use Rattle.fpc_terms.specs.Name.{Grows, AreDifferent};
 ghost use Rattle.fpc_terms.specs.Holding.{IsNamed};
 ghost use Rattle.polarised_formulas.specs.Machine.{FormulaState, limited};
-ghost use Rattle.polarised_formulas.specs.ReadFormula.{FormulaIsRead, IsFormulaRefusal, HoldsFor, TakesFor, Leads};
+ghost use Rattle.fpc_terms.specs.Machine.{is_open};
+ghost use Rattle.polarised_formulas.specs.Holding.{Holds};
+ghost use Rattle.polarised_formulas.specs.ReadFormula.{FormulaIsRead, IsFormulaRefusal, HoldsFor, TakesFor, Leads, ends_before};
 
 use crate::formula::Formula;
 use crate::logic::Logic;
@@ -80,18 +82,31 @@ fn read_whole<'a>(
             }
             Ok(Some(token)) => {
                 let lexeme = token.lexeme();
-                if reader.is_whole() && !lexeme.is(Sign::OpenParenthesis) {
+                if ends_before(&reader, lexeme) {
                     return Ok((reader, tokens));
                 }
                 match take_token(&mut reader, names, parameters, lexeme) {
                     Ok(()) => tokens = ahead,
-                    Err(TokenRefusal::Refused(code)) => {
-                        return Err(ParseRefusal::Refused(Refusal { code, at: token.at }));
-                    }
-                    Err(TokenRefusal::OutOfMemory) => return Err(ParseRefusal::OutOfMemory),
+                    Err(refusal) => return Err(refusal.placed(token.at)),
                 }
             }
         }
+    }
+}
+
+/// Whether the formula is whole and doesn't go on with the token.
+fn ends_before(reader: &FormulaReader<'_>, lexeme: Lexeme<'_>) -> bool
+    ensures { (number : List ℕ → ℕ) (logic : Logic) (parameters : List (List ℕ)) (s : FormulaState) → Holds number logic parameters s reader.now → result ≡ ends_before s (lexeme_as lexeme.entry) }
+{
+    reader.is_whole() && !is_open(lexeme)
+}
+
+fn is_open(lexeme: Lexeme<'_>) -> bool
+    ensures { result ≡ is_open (lexeme_as lexeme.entry) }
+{
+    match lexeme {
+        Lexeme::Sign(Sign::OpenParenthesis) => true,
+        _ => false,
     }
 }
 

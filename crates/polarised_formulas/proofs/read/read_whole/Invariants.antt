@@ -7,7 +7,7 @@ use Rattle.polarised_formulas.proofs.read.read_whole.Given as goal
 
 abbrev pub invariant-reading : goal.invariant-reading
 invariant-reading l = record {
-  on : IsOn l.initial.logic l.parameters.now (length (source_of l.initial.start)) (items_left l.initial.start) (items_left l.tokens) l.names l.reader;
+  on : IsOn l.fn.logic l.fn.parameters (length (source_of l.initial.start)) (items_left l.initial.start) (items_left l.tokens) l.names l.reader;
   names : Grows l.initial.names l.names;
   source : source_of l.tokens ≡ source_of l.initial.start
 }
