@@ -1,4 +1,3 @@
-pub mod Reading
 pub mod BoundFacts
 pub mod ReaderFacts
 pub mod NodeFacts
@@ -31,3 +30,4 @@ pub mod Named
 pub mod Closed
 pub mod RoundTrip
 pub mod FormulaNames
+pub mod ProblemFacts

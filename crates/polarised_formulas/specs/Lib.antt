@@ -1,5 +1,4 @@
 pub mod Formula
-pub mod Reading
 pub mod Nodes
 pub mod Opened
 pub mod Step
@@ -17,3 +16,4 @@ pub mod Size
 pub mod Spoken
 pub mod EachName
 pub mod RoundTrip
+pub mod ReadProblem
