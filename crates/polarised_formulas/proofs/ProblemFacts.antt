@@ -1,5 +1,5 @@
 -- How a problem is read token by token.
-use Rattle.std.specs.Prelude.{◌≡◌, ℕ, Bool, true, false, List, [], ◌∷◌, ◌++◌, Option, Some, None, Result, Ok, Err, refl, is_some}
+use Rattle.std.specs.Prelude.{◌≡◌, ℕ, Bool, true, false, List, [], ◌∷◌, ◌++◌, Option, Some, None, Result, Ok, Err, refl, is_some, IfOk, IfErr}
 use Rattle.std.proofs.Common.{ap, sym, ◌∙◌, subst}
 use Rattle.fpc_base.specs.declared.refusal.Code.{Code}
 use Rattle.fpc_base.specs.declared.refusal.Code.TheVariants.{Unexpected}
@@ -99,8 +99,8 @@ pub record IsOn (n : ℕ) (items rest : List Item) (names : List (List ℕ)) (r 
   pub at : IsAt n items rest state
   pub holds : HoldsProblem names state r
 
-pub IsOn-start : (n : ℕ) (items : List Item) (names : List (List ℕ)) (r : ProblemReader) → HoldsProblem names start r → IsOn n items items names r
-IsOn-start n items names r h = record { state = start; at = IsAt-start n items; holds = h }
+pub IsOn-start : (n : ℕ) (items rest : List Item) (names : List (List ℕ)) (r : ProblemReader) → rest ≡ items → HoldsProblem names start r → IsOn n items rest names r
+IsOn-start n items rest names r e h = record { state = start; at = subst (λ (x : List Item). IsAt n items x start) (sym e) (IsAt-start n items); holds = h }
 
 module _ (n : ℕ) (items all : List Item) (names : List (List ℕ)) (r : ProblemReader) (on : IsOn n items all names r) where
   pub IsOn-taken : (rest : List Item) (c : Lexeme) (at : ℕ) (more : List (List ℕ)) (new : ProblemReader) → all ≡ says c at ∷ rest
@@ -127,6 +127,14 @@ module _ (n : ℕ) (items all : List Item) (names : List (List ℕ)) (r : Proble
   pub IsOn-unfinished : (refusal : ParseRefusal) → all ≡ [] → IsUnfinished n on.state refusal → IsProblemRefusal items n refusal
   IsOn-unfinished (parse.Refused refusal) e u = rw u.0 (IsAt-unfinished n items on.state (rw e at on.at) u.1)
   IsOn-unfinished parse.OutOfMemory e u = tt
+
+  pub IsOn-finished : (result : Result Formula ParseRefusal) → all ≡ [] → IfOk result (GoalOf names on.state) → IfOk result (ProblemIsRead items names Lkf)
+  IsOn-finished (Ok goal) e g = IsOn-done goal e g
+  IsOn-finished (Err refusal) e g = tt
+
+  pub IsOn-ended : (result : Result Formula ParseRefusal) → all ≡ [] → IfErr result (IsUnfinished n on.state) → IfErr result (IsProblemRefusal items n)
+  IsOn-ended (Ok goal) e g = tt
+  IsOn-ended (Err refusal) e g = IsOn-unfinished refusal e g
 
 -- what is read is a problem
 pub read-problem : (before : List Lexeme) (items : List Item) (w : WrittenProblem) → reading_of.ReadsAll IsProblem ProblemLimits before items w → (tokens : List Lexeme) × IsProblem tokens w

@@ -51,10 +51,13 @@ pub fn read_problem(alloc: Global, names: &mut Names, bytes: &[u8]) -> Result<Pr
         }));
     }
     match read_goal(alloc, names, bytes) {
-        Ok(goal) => Ok(Problem {
-            logic: Logic::Lkf,
-            goal,
-        }),
+        Ok(goal) => {
+            names.distinct();
+            Ok(Problem {
+                logic: Logic::Lkf,
+                goal,
+            })
+        }
         Err(error) => Err(error),
     }
 }
