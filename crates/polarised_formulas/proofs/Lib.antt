@@ -1,4 +1,3 @@
-pub mod Reading
 pub mod BoundFacts
 pub mod ReaderFacts
 pub mod NodeFacts
@@ -32,3 +31,4 @@ pub mod Closed
 pub mod RoundTrip
 pub mod FormulaNames
 pub mod ReadFacts
+pub mod ProblemFacts

@@ -28,7 +28,7 @@ use Rattle.polarised_formulas.proofs.FormulaReading.{ReadsFormula, IsAt, IsAt-st
 pub Agrees-index_in : (texts : List (List ℕ)) → AreDifferent texts → Agrees (index_in texts) texts
 Agrees-index_in texts d k text e = index_in-different texts k text d e
 
-is-none : {A : Type 0} (o : Option A) → is_some o ≡ false → o ≡ None
+pub is-none : {A : Type 0} (o : Option A) → is_some o ≡ false → o ≡ None
 is-none None e = refl
 is-none (Some a) e = let n : ⊥ = cc in absurd n
 

@@ -1,5 +1,4 @@
 pub mod Formula
-pub mod Reading
 pub mod Nodes
 pub mod Opened
 pub mod Step
@@ -20,3 +19,4 @@ pub mod RoundTrip
 pub mod Bound
 pub mod Holding
 pub mod ReadFormula
+pub mod ReadProblem

@@ -1,0 +1,45 @@
+use Rattle.std.proofs.Common.{◌≡◌, [], ◌∷◌, map, ap, sym, ◌∙◌, refl}
+use Rattle.fpc_base.specs.Lexeme.{says, lexeme_as, items_left, item_of}
+use Rattle.fpc_terms.proofs.TokenNames.{named-from-form}
+use Rattle.polarised_formulas.proofs.ProblemFacts.{IsOn-start, IsOn-taken, IsOn-refused, IsOn-fault, IsOn-finished, IsOn-ended}
+use Rattle.polarised_formulas.proofs.problem.read_goal.Goals as goal
+
+pub reading-init : goal.reading-init
+reading-init c = record {
+  on = IsOn-start _ _ _ _ _ (ap (map item_of) c.new-tokens.ensures.tokens) (c.new-reader.ensures c.args.names.now);
+  names = λ k text e. e;
+}
+
+pub returns-in-Err-clause-err : goal.returns-in-Err-clause-err
+returns-in-Err-clause-err c = IsOn-fault _ _ _ _ _ c.reading.invariant.on [] c.in-Err.refusal (ap (map item_of) c.in-Err.ensures.next.0)
+
+pub returns-in-Ok-None-clause-ok : goal.returns-in-Ok-None-clause-ok
+returns-in-Ok-None-clause-ok c =
+    let on = c.reading.invariant.on in
+    let e = rw c.in-Ok-None.field-0-is at c.in-Ok-None.ensures.next in
+    IsOn-finished _ _ _ _ _ on c.finish.result (ap (map item_of) e.0) (c.finish.ensures.ok _ _ on.holds)
+
+pub returns-in-Ok-None-clause-err : goal.returns-in-Ok-None-clause-err
+returns-in-Ok-None-clause-err c =
+    let on = c.reading.invariant.on in
+    let e = rw c.in-Ok-None.field-0-is at c.in-Ok-None.ensures.next in
+    IsOn-ended _ _ _ _ _ on c.finish.result (ap (map item_of) e.0) (c.finish.ensures.err _ _ on.holds)
+
+pub take-requires-clause-named : goal.take-requires-clause-named
+take-requires-clause-named c =
+    named-from-form c.in-Ok-Some.token.kind c.in-Ok-Some.token.text.now _ c.lexeme-lexeme.ensures (rw c.in-Ok-Some.field-0-is at c.in-Ok-Some.ensures.form)
+
+pub reading-preserved : goal.reading-preserved
+reading-preserved c =
+    let e = rw c.in-Ok-Some.field-0-is at c.in-Ok-Some.ensures.next in
+    let i : items_left c.reading.tokens ≡ says (lexeme_as c.lexeme-lexeme.result) c.in-Ok-Some.token.at ∷ items_left c.next.new.self = rw c.lexeme-lexeme.ensures (ap (map item_of) e) in
+    record {
+      on = IsOn-taken _ _ _ _ _ c.reading.invariant.on _ _ _ _ _ i c.in-Ok.ensures.taken;
+      names = λ k text h. c.take.ensures.names k text (c.reading.invariant.names k text h);
+    }
+
+pub returns-in-Err-take-clause-err : goal.returns-in-Err-take-clause-err
+returns-in-Err-take-clause-err c =
+    let e = rw c.in-Ok-Some.field-0-is at c.in-Ok-Some.ensures.next in
+    let i : items_left c.reading.tokens ≡ says (lexeme_as c.lexeme-lexeme.result) c.in-Ok-Some.token.at ∷ items_left c.next.new.self = rw c.lexeme-lexeme.ensures (ap (map item_of) e) in
+    rw c.placed.ensures (IsOn-refused _ _ _ _ _ c.reading.invariant.on _ _ _ _ _ c.in-Err-take.refusal i c.in-Err-take.ensures.taken)

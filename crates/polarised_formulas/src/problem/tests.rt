@@ -1,0 +1,110 @@
+use super::*;
+use std::alloc::AllocError;
+use std::process::Abort;
+use std::test::Fail;
+
+/// What reading answers: nothing, or a code and its place.
+fn check(rt: &impl Abort, alloc: Global, text: &[u8], refused: Option<(Code, usize)>) {
+    let mut names = Names::new(alloc);
+    match (read_problem(alloc, &mut names, text), refused) {
+        (Ok(_), None) => {}
+        (Err(refusal), Some((code, at))) => {
+            assert_eq!(rt; refusal, ParseRefusal::Refused(Refusal { code, at }));
+        }
+        (Ok(_), Some(_)) => panic!(rt; "read"),
+        (Err(_), None) => panic!(rt; "refused"),
+    }
+}
+
+/// A text, a byte so many times, and another text.
+fn repeated(
+    alloc: Global,
+    front: &[u8],
+    byte: u8,
+    count: usize,
+    back: &[u8],
+) -> Result<Vec<u8>, AllocError> {
+    let mut text = Vec::new(alloc);
+    text.extend_from_slice(front)?;
+    for _ in 0..count {
+        text.push(byte)?;
+    }
+    text.extend_from_slice(back)?;
+    Ok(text)
+}
+
+#[test]
+fn problems_are_read_or_refused(rt: HostRuntime) {
+    let table: [(&[u8], Option<(Code, usize)>); 18] = [
+        (b"lkf (p |- ~p).", None),
+        (b"lkf p.\n", None),
+        (b"lkf tt+.", None),
+        (b"lkf all X: some Y: (p(X,f(Y,a)) &+ ~q).", None),
+        (b"lkf ((all X: p(X) |- some X: ~p(X)) |+ (p &- ff-)).", None),
+        (b"", Some((Code::Unexpected, 0))),
+        (b"lkf (p |- lon", Some((Code::Unexpected, 13))),
+        (b"lkf (p & q).", Some((Code::BadByte, 7))),
+        (b"ljf +p.", Some((Code::NotBuilt, 0))),
+        (b"lkg p.", Some((Code::Unexpected, 0))),
+        (b"lkf p", Some((Code::Unexpected, 5))),
+        (b"lkf p..", Some((Code::Unexpected, 6))),
+        (b"lkf p(X).", Some((Code::Unexpected, 6))),
+        (b"lkf (all X: p(X) |- q(X)).", Some((Code::Unexpected, 22))),
+        (b"lkf p |- q.", Some((Code::Unexpected, 6))),
+        (b"lkf (p).", Some((Code::Unexpected, 6))),
+        (b"lkf (p => q).", Some((Code::Unexpected, 7))),
+        (b"lkf p().", Some((Code::Unexpected, 6))),
+    ];
+    for (text, refused) in table {
+        check(&rt, rt.alloc(), text, refused);
+    }
+}
+
+#[test]
+fn limits_are_kept(rt: HostRuntime) -> Result<(), Fail> {
+    let alloc = rt.alloc();
+    let name = repeated(alloc, b"lkf ", b'a', 255, b".")?;
+    check(&rt, alloc, name.as_slice(), None);
+    let long = repeated(alloc, b"lkf ", b'a', 256, b".")?;
+    check(&rt, alloc, long.as_slice(), Some((Code::LongName, 4)));
+    let deep = repeated(alloc, b"lkf ", b'(', 10_001, b"")?;
+    check(&rt, alloc, deep.as_slice(), Some((Code::TooDeep, 10_004)));
+    let deepest = repeated(alloc, b"lkf ", b'(', 10_000, b"")?;
+    check(&rt, alloc, deepest.as_slice(), Some((Code::TooDeep, 10_003)));
+    let large = repeated(alloc, b"lkf p.", b' ', 16_777_211, b"")?;
+    check(&rt, alloc, large.as_slice(), Some((Code::TooLarge, 16_777_216)));
+    Ok(())
+}
+
+#[test]
+fn a_name_has_at_most_255_arguments(rt: HostRuntime) -> Result<(), Fail> {
+    let alloc = rt.alloc();
+    let mut text = Vec::from_array(alloc, *b"lkf p(a")?;
+    for _ in 0..254 {
+        text.extend_from_slice(b",a")?;
+    }
+    let fits = text.len();
+    text.extend_from_slice(b").")?;
+    check(&rt, alloc, text.as_slice(), None);
+    text.truncate(fits);
+    text.extend_from_slice(b",a).")?;
+    check(&rt, alloc, text.as_slice(), Some((Code::ManyArguments, 515)));
+    Ok(())
+}
+
+/// Each cut of a problem ends too early.
+#[test]
+fn cuts_are_refused(rt: HostRuntime) {
+    let problems: [&[u8]; 2] = [b"lkf (p |- ~p).", b"lkf all X: (p(X,f(a)) |- tt+)."];
+    for problem in problems {
+        for end in 0..problem.len() {
+            let mut names = Names::new(rt.alloc());
+            match read_problem(rt.alloc(), &mut names, &problem[..end]) {
+                Err(ParseRefusal::Refused(refusal)) => {
+                    assert!(rt; refusal.code == Code::Unexpected || refusal.code == Code::BadByte);
+                }
+                _ => panic!(rt; "read"),
+            }
+        }
+    }
+}
