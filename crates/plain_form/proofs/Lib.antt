@@ -23,3 +23,4 @@ pub mod Growth
 pub mod Steps
 pub mod Answering
 pub mod Wanted
+pub mod Taking
