@@ -24,3 +24,4 @@ pub mod Steps
 pub mod Answering
 pub mod Wanted
 pub mod Taking
+pub mod Explained
