@@ -105,7 +105,7 @@ module _ (old names now : List (List ℕ)) (logic : Logic) (bytes : List ℕ) (r
             stands = t.2;
             wanted = subst LeadsOn t.1 (leads-next number logic p.q b p.wanted);
             same = from number agrees p ∙ ap (λ n. unless_refused (fault_inside p.q n) i (outcome number logic n (suc i) rest)) t.1
-                ∙ ap (λ c. unless_refused c i (outcome number logic (on t.0) (suc i) rest)) (told-free i (limit_of p.q t.0) t.3) ∙ ap (outcome number logic (on t.0) (suc i)) (sym after)
+                ∙ ap (λ c. unless_refused c i (outcome number logic (on t.0) (suc i) rest)) (told-free i (limit_of p.q t.0) t.3) ∙ ap (outcome number logic (on t.0) (suc i)) (sym after);
           }
 
   refusal : (o later : Outcome) (c : Option Code) (code : Code) → o ≡ unless_refused c i later → told_at i c ≡ Some code → (nat_le 67108864 i ≡ true → cut 67108864 o ≡ refused TooLarge i)
@@ -133,9 +133,9 @@ module _ (old names now : List (List ℕ)) (logic : Logic) (bytes : List ℕ) (r
       let t = taken number logic p.q agrees p.stands in
       subst (λ k. at_most 67108864 (length bytes) (outcome number logic (start of_formula) 0 bytes) ≡ refused f.code k) (sym t.0)
       (refusal (outcome number logic (start of_formula) 0 bytes) _ _ f.code (from number agrees p) t.1
-        (λ d. subst (λ m. cut m (outcome number logic (start of_formula) 0 bytes) ≡ refused TooLarge i) (large-place d)
-          (ap (cut i) p.same ∙ later number logic i (drop i bytes) (on p.q) i (omega arith)))
-        inside reads.few)
+      (λ d. subst (λ m. cut m (outcome number logic (start of_formula) 0 bytes) ≡ refused TooLarge i) (large-place d)
+      (ap (cut i) p.same ∙ later number logic i (drop i bytes) (on p.q) i (omega arith)))
+      inside reads.few)
     where
       large-place : nat_le 67108864 i ≡ true → i ≡ 67108864
       large-place d = let few = reads.few in grind (arith, nat_tests)
@@ -150,8 +150,11 @@ module _ (old names now : List (List ℕ)) (logic : Logic) (bytes : List ℕ) (r
 
   pub reads-end : (result : Result Formula ParseRefusal)
       → ((number : List ℕ → ℕ) (logic : Logic) (q : Reading) → Agrees number now → Stands logic q r → IsOfFormula q → IsEnded (length bytes) result (outcome_at_end (length bytes) (next number logic q 10))) → IsAnswer now logic bytes result
-  reads-end (Ok f) ended = (reads.few, λ number agrees.
-      let p = reads.place number (Agrees-grows names now number grows agrees) in at-end number agrees p ∙ ended number logic p.q agrees p.stands p.wanted)
+  reads-end (Ok f) ended = (
+    reads.few,
+    λ number agrees.
+        let p = reads.place number (Agrees-grows names now number grows agrees) in at-end number agrees p ∙ ended number logic p.q agrees p.stands p.wanted,
+  )
   reads-end (Err OutOfMemory) ended = tt
   reads-end (Err (Refused f)) ended = λ number agrees.
       let p = reads.place number (Agrees-grows names now number grows agrees) in

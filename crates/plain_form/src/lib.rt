@@ -4,12 +4,12 @@
 pub mod read;
 pub mod reader;
 
-pub use read::read_plain_formula;
-pub use reader::{PlainReader, Progress};
-
 ghost use Rattle.plain_form.specs.PlainForm.{FormulaIsOne, FormulaIsWhole, GoingBegins, PlainFormulaIsProper, PlainTermIsProper, TermIsOne, TermIsWhole};
 ghost use Rattle.plain_form.specs.PlainLimits.{FormulaOutcome, PlainGrows, PlainTermGrows, RefusalIsTold, TermOutcome};
 ghost use Rattle.plain_form.specs.PlainTexts.{FormulaIsRead, LineEnds, LinesAreShared, OnBegins, TableHasNumbering, TermIsRead};
+
+pub use read::read_plain_formula;
+pub use reader::{PlainReader, Progress};
 
 /// Laws of lines: the reading goes on exactly where the bytes begin a line, and what is whole is what the line holds. A line ends with the byte 10, which stands
 /// nowhere inside one, and holds one term or formula. What is a line hangs on no numbering.

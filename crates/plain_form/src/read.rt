@@ -7,6 +7,9 @@ ghost use Rattle.plain_form.specs.PlainLimits.{outcome_at_end};
 ghost use Rattle.plain_form.specs.PlainStanding.{Stands};
 ghost use Rattle.plain_form.specs.PlainTaking.{IsTaken, IsEnded, IsAnswer, IsExplained, IsOfFormula};
 
+#[cfg(test)]
+mod tests;
+
 use crate::reader::{PlainReader, Progress};
 use fpc_base::refusal::{Code, ParseRefusal, Refusal, TokenRefusal};
 use fpc_terms::names::Names;
@@ -26,7 +29,12 @@ fn refused(code: Code, at: usize) -> ParseRefusal
 /// Reads a formula of the logic in plain form. Its names get numbers, also where the text is refused. Time and memory are
 /// linear in the number of bytes, but for the look-up of each name.
 #[tactic(auto, using(crate::proofs::Explained::explained))]
-pub fn read_plain_formula(alloc: Global, names: &mut Names, logic: Logic, bytes: &[u8]) -> Result<Formula, ParseRefusal>
+pub fn read_plain_formula(
+    alloc: Global,
+    names: &mut Names,
+    logic: Logic,
+    bytes: &[u8],
+) -> Result<Formula, ParseRefusal>
     ensures grows { Grows names.old names.new }
     ensures outcome { IsAnswer names.new logic bytes.now result }
     ensures explained { IsExplained names.new logic bytes.now result }
@@ -36,7 +44,12 @@ pub fn read_plain_formula(alloc: Global, names: &mut Names, logic: Logic, bytes:
     result
 }
 
-fn read_bytes(alloc: Global, names: &mut Names, logic: Logic, bytes: &[u8]) -> Result<Formula, ParseRefusal>
+fn read_bytes(
+    alloc: Global,
+    names: &mut Names,
+    logic: Logic,
+    bytes: &[u8],
+) -> Result<Formula, ParseRefusal>
     ensures grows { Grows names.old names.new }
     ensures outcome { IsAnswer names.new logic bytes.now result }
 {
