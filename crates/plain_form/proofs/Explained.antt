@@ -13,6 +13,7 @@ use Rattle.plain_form.specs.PlainForm.{GivesBack}
 use Rattle.plain_form.specs.PlainLimits.{Outcome, a_term, a_formula, refused, outcome, cut, at_most}
 use Rattle.plain_form.specs.PlainTaking.{IsAnswer, IsPlainRefusal, IsExplained}
 use Rattle.plain_form.proofs.Standing.{HasOutcome-comes}
+use Rattle.plain_form.proofs.Named.{plain_formula_is_named}
 use Rattle.plain_form.proofs.Refusals.{refusal_is_told}
 use Rattle.plain_form.proofs.TableOutcomes.{formula_has_outcome}
 
@@ -42,6 +43,7 @@ module _ (text : ℕ → List ℕ) (number : List ℕ → ℕ) (back : GivesBack
       by false d k = let l : 67108864 < length bytes = grind (arith, nat_tests) in explained-cut (outcome number logic (start of_formula) 0 bytes) refl l k
 
 pub explained : (names : List (List ℕ)) → AreDifferent names → (logic : Logic) (bytes : List ℕ) (result : Result Formula ParseRefusal) → IsAnswer names logic bytes result → IsExplained names logic bytes result
-explained names differ logic bytes (Ok f) h = (formula_has_outcome names differ logic bytes f).0 (HasOutcome-comes names logic of_formula bytes (a_formula f) h.1)
+explained names differ logic bytes (Ok f) h =
+    let r = (formula_has_outcome names differ logic bytes f).0 (HasOutcome-comes names logic of_formula bytes (a_formula f) h.1) in (r.0, r.1, r.2, plain_formula_is_named names logic f r.0)
 explained names differ logic bytes (Err (Refused r)) h = λ text number agrees back. explained-refusal text number back logic bytes r.code r.at (h number agrees)
 explained names differ logic bytes (Err OutOfMemory) h = tt

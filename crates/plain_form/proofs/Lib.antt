@@ -25,3 +25,4 @@ pub mod Answering
 pub mod Wanted
 pub mod Taking
 pub mod Explained
+pub mod Named

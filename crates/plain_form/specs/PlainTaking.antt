@@ -7,6 +7,7 @@ use Rattle.fpc_base.specs.declared.refusal.ParseRefusal.TheVariants.{Refused, Ou
 use Rattle.fpc_terms.specs.Name.{Agrees}
 use Rattle.fpc_terms.specs.Text.{name_in}
 use Rattle.polarised_formulas.specs.Text.{plain_text}
+use Rattle.polarised_formulas.specs.Printing.{AllNamesBelow}
 use Rattle.polarised_formulas.specs.declared.logic.Logic.{Logic}
 use Rattle.polarised_formulas.specs.Formula.{Formula}
 use Rattle.plain_form.specs.PlainReading.{Around, alone, in_term, in_atom, Reading, at_formula, in_word, at_name, in_name, behind_formula, in_operator, at_term, in_function, at_eigen, in_eigen, at_index, in_index, behind_term, Next, on, of_formula, start}
@@ -66,8 +67,8 @@ IsPlainRefusal text number logic bytes code place =
     (((place < 67108864) ⊎ (length bytes ≤ 67108864)) × IsRefused text number logic of_formula bytes code place)
     ⊎ ((code ≡ TooLarge) × (place ≡ 67108864) × (67108864 < length bytes) × ((c : Code) (earlier : ℕ) → outcome number logic (start of_formula) 0 bytes ≡ refused c earlier → 67108864 ≤ earlier))
 
--- The answer in terms of texts: the formula whose text the bytes are, which keeps the limits, or why they are refused.
+-- The answer in terms of texts: the formula whose text the bytes are, which keeps the limits and has no other names than the table's, or why they are refused.
 abbrev pub IsExplained : List (List ℕ) → Logic → List ℕ → Result Formula ParseRefusal → Type 0
-IsExplained names logic bytes (Ok f) = IsPlainIn names logic f × FitsFormula (name_in names) 0 f × (plain_text names logic f ≡ bytes)
+IsExplained names logic bytes (Ok f) = IsPlainIn names logic f × FitsFormula (name_in names) 0 f × (plain_text names logic f ≡ bytes) × AllNamesBelow (length names) f
 IsExplained names logic bytes (Err (Refused refusal)) = (text : ℕ → List ℕ) (number : List ℕ → ℕ) → Agrees number names → GivesBack text number → IsPlainRefusal text number logic bytes refusal.code refusal.at
 IsExplained names logic bytes (Err OutOfMemory) = Unit {0}

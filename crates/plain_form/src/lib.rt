@@ -6,7 +6,7 @@ pub mod reader;
 
 ghost use Rattle.plain_form.specs.PlainForm.{FormulaIsOne, FormulaIsWhole, GoingBegins, PlainFormulaIsProper, PlainTermIsProper, TermIsOne, TermIsWhole};
 ghost use Rattle.plain_form.specs.PlainLimits.{FormulaOutcome, PlainGrows, PlainTermGrows, RefusalIsTold, TermOutcome};
-ghost use Rattle.plain_form.specs.PlainTexts.{FormulaIsRead, LineEnds, LinesAreShared, OnBegins, TableHasNumbering, TermIsRead};
+ghost use Rattle.plain_form.specs.PlainTexts.{PlainFormulaIsNamed, PlainTermIsNamed, FormulaIsRead, LineEnds, LinesAreShared, OnBegins, TableHasNumbering, TermIsRead};
 
 pub use read::read_plain_formula;
 pub use reader::{PlainReader, Progress};
@@ -43,11 +43,13 @@ pub fn laws_of_outcomes()
     ensures refusal { RefusalIsTold }
 {}
 
-/// Laws of what is read: it has no variable and no free bound index, a formula is of its logic, and both keep their texts as the table of names grows.
+/// Laws of what is read: it has no variable and no free bound index, its names stand in the table, a formula is of its logic, and both keep their texts as the table of names grows.
 #[tactic(auto, using(crate::proofs::Laws::laws))]
 pub fn laws_of_what_is_read()
     ensures term { PlainTermIsProper }
     ensures formula { PlainFormulaIsProper }
+    ensures named_term { PlainTermIsNamed }
+    ensures named_formula { PlainFormulaIsNamed }
     ensures grown_term { PlainTermGrows }
     ensures grown_formula { PlainGrows }
 {}
