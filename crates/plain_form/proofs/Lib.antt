@@ -24,3 +24,6 @@ pub mod Steps
 pub mod Printing
 pub mod Answering
 pub mod Wanted
+pub mod Taking
+pub mod Explained
+pub mod Named

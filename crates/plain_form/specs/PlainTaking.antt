@@ -1,13 +1,19 @@
 -- What a reader of a whole text in plain form tells.
-use Rattle.std.specs.Prelude.{◌≡◌, ℕ, ◌<◌, ◌≤◌, if◌then◌else◌, nat_le, List, length, Option, Some, None, Result, Ok, Err}
+use Rattle.std.specs.Prelude.{◌≡◌, ℕ, ◌<◌, ◌≤◌, if◌then◌else◌, nat_le, List, length, ◌⊎◌, Option, Some, None, Result, Ok, Err}
 use Rattle.fpc_base.specs.declared.refusal.Code.{Code}
 use Rattle.fpc_base.specs.declared.refusal.Code.TheVariants.{TooLarge}
 use Rattle.fpc_base.specs.declared.refusal.ParseRefusal.{ParseRefusal}
 use Rattle.fpc_base.specs.declared.refusal.ParseRefusal.TheVariants.{Refused, OutOfMemory}
+use Rattle.fpc_terms.specs.Name.{Agrees}
+use Rattle.fpc_terms.specs.Text.{name_in}
+use Rattle.polarised_formulas.specs.Text.{plain_text}
+use Rattle.polarised_formulas.specs.Printing.{AllNamesBelow}
 use Rattle.polarised_formulas.specs.declared.logic.Logic.{Logic}
 use Rattle.polarised_formulas.specs.Formula.{Formula}
-use Rattle.plain_form.specs.PlainReading.{Around, alone, in_term, in_atom, Reading, at_formula, in_word, at_name, in_name, behind_formula, in_operator, at_term, in_function, at_eigen, in_eigen, at_index, in_index, behind_term, Next, on, of_formula}
-use Rattle.plain_form.specs.PlainLimits.{limit_of, fault_inside, Outcome, a_formula, refused, outcome_at_end, Comes, ComesRefused}
+use Rattle.plain_form.specs.PlainReading.{Around, alone, in_term, in_atom, Reading, at_formula, in_word, at_name, in_name, behind_formula, in_operator, at_term, in_function, at_eigen, in_eigen, at_index, in_index, behind_term, Next, on, of_formula, start}
+use Rattle.plain_form.specs.PlainForm.{GivesBack}
+use Rattle.plain_form.specs.PlainTexts.{IsPlainIn}
+use Rattle.plain_form.specs.PlainLimits.{limit_of, fault_inside, Outcome, a_formula, refused, outcome_at_end, outcome, FitsFormula, IsRefused, Comes, ComesRefused}
 use Rattle.plain_form.specs.PlainStanding.{Stands}
 use Rattle.plain_form.specs.declared.reader.PlainReader.{PlainReader}
 
@@ -54,3 +60,15 @@ abbrev pub IsAnswer : List (List ℕ) → Logic → List ℕ → Result Formula 
 IsAnswer names logic bytes (Ok f) = (length bytes ≤ 67108864) × Comes names logic of_formula bytes (a_formula f)
 IsAnswer names logic bytes (Err (Refused refusal)) = ComesRefused names logic of_formula bytes refusal.code refusal.at
 IsAnswer names logic bytes (Err OutOfMemory) = Unit {0}
+
+-- Why a text is refused at a place: what is told there, within the limit of 67,108,864 bytes, or that there are more of them, and of none in front of that one something is told.
+abbrev pub IsPlainRefusal : (ℕ → List ℕ) → (List ℕ → ℕ) → Logic → List ℕ → Code → ℕ → Type 0
+IsPlainRefusal text number logic bytes code place =
+    (((place < 67108864) ⊎ (length bytes ≤ 67108864)) × IsRefused text number logic of_formula bytes code place)
+    ⊎ ((code ≡ TooLarge) × (place ≡ 67108864) × (67108864 < length bytes) × ((c : Code) (earlier : ℕ) → outcome number logic (start of_formula) 0 bytes ≡ refused c earlier → 67108864 ≤ earlier))
+
+-- The answer in terms of texts: the formula whose text the bytes are, which keeps the limits and has no other names than the table's, or why they are refused.
+abbrev pub IsExplained : List (List ℕ) → Logic → List ℕ → Result Formula ParseRefusal → Type 0
+IsExplained names logic bytes (Ok f) = IsPlainIn names logic f × FitsFormula (name_in names) 0 f × (plain_text names logic f ≡ bytes) × AllNamesBelow (length names) f
+IsExplained names logic bytes (Err (Refused refusal)) = (text : ℕ → List ℕ) (number : List ℕ → ℕ) → Agrees number names → GivesBack text number → IsPlainRefusal text number logic bytes refusal.code refusal.at
+IsExplained names logic bytes (Err OutOfMemory) = Unit {0}

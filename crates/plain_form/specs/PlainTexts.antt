@@ -3,6 +3,8 @@ use Rattle.std.specs.Prelude.{◌≡◌, ℕ, ◌≤◌, ◌↔◌, nat_eq, fals
 use Rattle.fpc_terms.specs.Name.{Agrees, AreDifferent}
 use Rattle.fpc_terms.specs.Term.{Term}
 use Rattle.fpc_terms.specs.Text.{name_in, term_text}
+use Rattle.fpc_terms.specs.Printing.{HasNamesBelow}
+use Rattle.polarised_formulas.specs.Printing.{AllNamesBelow}
 use Rattle.polarised_formulas.specs.declared.logic.Logic.{Logic}
 use Rattle.polarised_formulas.specs.Formula.{Formula}
 use Rattle.polarised_formulas.specs.Text.{plain_text}
@@ -72,3 +74,11 @@ FormulaIsRead = (names : List (List ℕ)) → AreDifferent names → (logic : Lo
 -- the numbering of a table of different names agrees with it, and gives all names back
 abbrev pub TableHasNumbering : Type 0
 TableHasNumbering = (least : ℕ) (names : List (List ℕ)) → AreDifferent names → length names ≤ least → Agrees (number_in least names) names × GivesBack (text_in least names) (number_in least names)
+
+-- the names of a plain term stand in the table
+abbrev pub PlainTermIsNamed : Type 0
+PlainTermIsNamed = (names : List (List ℕ)) (t : Term) → IsPlainTermIn names t → HasNamesBelow (length names) t
+
+-- the names of a plain formula stand in the table
+abbrev pub PlainFormulaIsNamed : Type 0
+PlainFormulaIsNamed = (names : List (List ℕ)) (logic : Logic) (f : Formula) → IsPlainIn names logic f → AllNamesBelow (length names) f

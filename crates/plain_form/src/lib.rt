@@ -4,13 +4,14 @@
 pub mod read;
 pub mod reader;
 
-pub use read::read_plain_formula;
-pub use reader::{PlainReader, Progress};
-
 ghost use Rattle.plain_form.specs.PlainForm.{FormulaIsOne, FormulaIsWhole, GoingBegins, PlainFormulaIsProper, PlainTermIsProper, TermIsOne, TermIsWhole};
 ghost use Rattle.plain_form.specs.PlainLimits.{FormulaOutcome, PlainGrows, PlainTermGrows, RefusalIsTold, TermOutcome};
 ghost use Rattle.plain_form.specs.PlainPrinting.{FormulaIsPlain, FormulaIsReadBack, TermIsPlain, TermIsReadBack};
 ghost use Rattle.plain_form.specs.PlainTexts.{FormulaIsRead, LineEnds, LinesAreShared, OnBegins, TableHasNumbering, TermIsRead};
+ghost use Rattle.plain_form.specs.PlainTexts.{PlainFormulaIsNamed, PlainTermIsNamed, FormulaIsRead, LineEnds, LinesAreShared, OnBegins, TableHasNumbering, TermIsRead};
+
+pub use read::read_plain_formula;
+pub use reader::{PlainReader, Progress};
 
 /// Laws of lines: the reading goes on exactly where the bytes begin a line, and what is whole is what the line holds. A line ends with the byte 10, which stands
 /// nowhere inside one, and holds one term or formula. What is a line hangs on no numbering.
@@ -44,11 +45,13 @@ pub fn laws_of_outcomes()
     ensures refusal { RefusalIsTold }
 {}
 
-/// Laws of what is read: it has no variable and no free bound index, a formula is of its logic, and both keep their texts as the table of names grows.
+/// Laws of what is read: it has no variable and no free bound index, its names stand in the table, a formula is of its logic, and both keep their texts as the table of names grows.
 #[tactic(auto, using(crate::proofs::Laws::laws))]
 pub fn laws_of_what_is_read()
     ensures term { PlainTermIsProper }
     ensures formula { PlainFormulaIsProper }
+    ensures named_term { PlainTermIsNamed }
+    ensures named_formula { PlainFormulaIsNamed }
     ensures grown_term { PlainTermGrows }
     ensures grown_formula { PlainGrows }
 {}

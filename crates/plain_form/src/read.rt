@@ -5,7 +5,10 @@ ghost use Rattle.polarised_formulas.specs.declared.logic.Logic.{Logic};
 ghost use Rattle.plain_form.specs.PlainReading.{Reading, next};
 ghost use Rattle.plain_form.specs.PlainLimits.{outcome_at_end};
 ghost use Rattle.plain_form.specs.PlainStanding.{Stands};
-ghost use Rattle.plain_form.specs.PlainTaking.{IsTaken, IsEnded, IsAnswer, IsOfFormula};
+ghost use Rattle.plain_form.specs.PlainTaking.{IsTaken, IsEnded, IsAnswer, IsExplained, IsOfFormula};
+
+#[cfg(test)]
+mod tests;
 
 use crate::reader::{PlainReader, Progress};
 use fpc_base::refusal::{Code, ParseRefusal, Refusal, TokenRefusal};
@@ -25,9 +28,30 @@ fn refused(code: Code, at: usize) -> ParseRefusal
 
 /// Reads a formula of the logic in plain form. Its names get numbers, also where the text is refused. Time and memory are
 /// linear in the number of bytes, but for the look-up of each name.
-pub fn read_plain_formula(alloc: Global, names: &mut Names, logic: Logic, bytes: &[u8]) -> Result<Formula, ParseRefusal>
+#[tactic(auto, using(crate::proofs::Explained::explained))]
+pub fn read_plain_formula(
+    alloc: Global,
+    names: &mut Names,
+    logic: Logic,
+    bytes: &[u8],
+) -> Result<Formula, ParseRefusal>
     ensures grows { Grows names.old names.new }
-    ensures answer { IsAnswer names.new logic bytes.now result }
+    ensures outcome { IsAnswer names.new logic bytes.now result }
+    ensures explained { IsExplained names.new logic bytes.now result }
+{
+    let result = read_bytes(alloc, names, logic, bytes);
+    names.distinct();
+    result
+}
+
+fn read_bytes(
+    alloc: Global,
+    names: &mut Names,
+    logic: Logic,
+    bytes: &[u8],
+) -> Result<Formula, ParseRefusal>
+    ensures grows { Grows names.old names.new }
+    ensures outcome { IsAnswer names.new logic bytes.now result }
 {
     let mut reader = PlainReader::new(alloc, logic);
     for (at, b) in bytes.iter().enumerate() {

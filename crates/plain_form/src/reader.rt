@@ -12,9 +12,14 @@ ghost use Rattle.plain_form.specs.PlainReading.{Hole, Around, alone, in_term, in
 ghost use Rattle.plain_form.specs.PlainLimits.{nesting};
 ghost use Rattle.plain_form.specs.PlainStanding.{Stands, IsOutside, IsLiteral, IsAround, IsBehind, IsNext, IsOn, IsNamed, begun, BeginsWord, word_meant, operator_of, built_holes, formula_around, told_of, next_unnamed};
 
+#[cfg(test)]
+mod tests;
 mod words;
 
-use crate::reader::words::{Word, begins_operator, begins_word, is_digit, is_keyword, is_name_byte, is_small_letter, operator_with, with_digit, word_with};
+use crate::reader::words::{
+    Word, begins_operator, begins_word, is_digit, is_keyword, is_name_byte, is_small_letter,
+    operator_with, with_digit, word_with,
+};
 use fpc_base::outside::OutOfMemory;
 use fpc_base::refusal::{Code, TokenRefusal};
 use fpc_terms::builder::TermBuilder;
@@ -368,7 +373,12 @@ impl PlainReader {
         Ok(Progress::Going)
     }
 
-    fn in_name(&mut self, names: &mut Names, positive: bool, b: u8) -> Result<Progress, TokenRefusal>
+    fn in_name(
+        &mut self,
+        names: &mut Names,
+        positive: bool,
+        b: u8,
+    ) -> Result<Progress, TokenRefusal>
         ensures grows { Grows names.old names.new }
         ensures next { (number : List ℕ → ℕ) (logic : Logic) (hs : List Hole) (w : List ℕ) → Agrees number names.new → Stands logic (in_name hs positive w) self.old
             → IsNext logic 0 result self.new (next number logic (in_name hs positive w) b) }
@@ -381,7 +391,12 @@ impl PlainReader {
     }
 
     /// Takes the byte behind the name of a literal.
-    fn end_name(&mut self, names: &mut Names, positive: bool, b: u8) -> Result<Progress, TokenRefusal>
+    fn end_name(
+        &mut self,
+        names: &mut Names,
+        positive: bool,
+        b: u8,
+    ) -> Result<Progress, TokenRefusal>
         ensures grows { Grows names.old names.new }
         ensures next { (number : List ℕ → ℕ) (logic : Logic) (hs : List Hole) (w : List ℕ) → Agrees number names.new → Stands logic (in_name hs positive w) self.old
             → IsNext logic 0 result self.new (end_name number hs positive w b) }
@@ -396,7 +411,12 @@ impl PlainReader {
     }
 
     /// Takes the byte behind a literal so far.
-    fn end_named_literal(&mut self, positive: bool, name: NameId, b: u8) -> Result<Progress, TokenRefusal>
+    fn end_named_literal(
+        &mut self,
+        positive: bool,
+        name: NameId,
+        b: u8,
+    ) -> Result<Progress, TokenRefusal>
         ensures { (logic : Logic) (hs : List Hole) → IsLiteral logic hs [] self.old
             → IsNext logic 0 result self.new (if nat_eq b 40 then on (at_term (in_atom hs positive name [])) else end_formula hs (atom positive name no_args) b) }
     {
