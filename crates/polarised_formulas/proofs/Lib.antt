@@ -30,5 +30,4 @@ pub mod Named
 pub mod Closed
 pub mod RoundTrip
 pub mod FormulaNames
-pub mod ReadFacts
 pub mod ProblemFacts

@@ -16,7 +16,4 @@ pub mod Size
 pub mod Spoken
 pub mod EachName
 pub mod RoundTrip
-pub mod Bound
-pub mod Holding
-pub mod ReadFormula
 pub mod ReadProblem
