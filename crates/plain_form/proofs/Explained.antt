@@ -13,7 +13,7 @@ use Rattle.plain_form.specs.PlainForm.{GivesBack}
 use Rattle.plain_form.specs.PlainLimits.{Outcome, a_term, a_formula, refused, outcome, cut, at_most}
 use Rattle.plain_form.specs.PlainTaking.{IsAnswer, IsPlainRefusal, IsExplained}
 use Rattle.plain_form.proofs.Standing.{HasOutcome-comes}
-use Rattle.plain_form.proofs.Named.{plain_formula_is_named}
+use Rattle.plain_form.proofs.PlainNamed.{plain_formula_is_named}
 use Rattle.plain_form.proofs.Refusals.{refusal_is_told}
 use Rattle.plain_form.proofs.TableOutcomes.{formula_has_outcome}
 

@@ -26,4 +26,4 @@ pub mod Answering
 pub mod Wanted
 pub mod Taking
 pub mod Explained
-pub mod Named
+pub mod PlainNamed

@@ -7,7 +7,6 @@ pub mod reader;
 ghost use Rattle.plain_form.specs.PlainForm.{FormulaIsOne, FormulaIsWhole, GoingBegins, PlainFormulaIsProper, PlainTermIsProper, TermIsOne, TermIsWhole};
 ghost use Rattle.plain_form.specs.PlainLimits.{FormulaOutcome, PlainGrows, PlainTermGrows, RefusalIsTold, TermOutcome};
 ghost use Rattle.plain_form.specs.PlainPrinting.{FormulaIsPlain, FormulaIsReadBack, TermIsPlain, TermIsReadBack};
-ghost use Rattle.plain_form.specs.PlainTexts.{FormulaIsRead, LineEnds, LinesAreShared, OnBegins, TableHasNumbering, TermIsRead};
 ghost use Rattle.plain_form.specs.PlainTexts.{PlainFormulaIsNamed, PlainTermIsNamed, FormulaIsRead, LineEnds, LinesAreShared, OnBegins, TableHasNumbering, TermIsRead};
 
 pub use read::read_plain_formula;

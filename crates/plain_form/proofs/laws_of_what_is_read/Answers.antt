@@ -1,4 +1,4 @@
-use Rattle.plain_form.proofs.Named.{plain_term_is_named, plain_formula_is_named}
+use Rattle.plain_form.proofs.PlainNamed.{plain_term_is_named, plain_formula_is_named}
 use Rattle.plain_form.proofs.Growth.{plain_grows, plain_term_grows}
 use Rattle.plain_form.proofs.laws_of_what_is_read.Goals as goal
 
