@@ -17,3 +17,11 @@ pub mod Spoken
 pub mod EachName
 pub mod RoundTrip
 pub mod ReadProblem
+pub mod PlainReading
+pub mod PlainForm
+pub mod Numbering
+pub mod PlainTexts
+pub mod PlainLimits
+pub mod PlainPrinting
+pub mod PlainStanding
+pub mod PlainTaking

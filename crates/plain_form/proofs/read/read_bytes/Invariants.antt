@@ -1,5 +1,0 @@
-use Rattle.plain_form.proofs.Taking.{ReadsTo}
-use Rattle.plain_form.proofs.read.read_bytes.Given as goal
-
-abbrev pub invariant-loop-at : goal.invariant-loop-at
-invariant-loop-at l = ReadsTo l.fn.names l.names l.fn.logic l.fn.bytes l.reader l.at

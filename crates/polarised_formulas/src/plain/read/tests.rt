@@ -1,0 +1,172 @@
+//! Texts in plain form: what they hold, and where they are refused.
+use super::*;
+use fpc_base::outside::OutOfMemory;
+use fpc_terms::cell::Cell;
+use crate::logic::Logic::{Ljf, Lkf};
+use crate::logic::Polarity;
+use crate::node::Node;
+use std::process::Abort;
+use std::test::Fail;
+
+fn expect_accepted(rt: &impl Abort, alloc: Global, logic: Logic, text: &[u8]) {
+    let mut names = Names::new(alloc);
+    let read = read_plain_formula(alloc, &mut names, logic, text);
+    assert!(rt; read.is_ok(), "{logic:?} {text:?}");
+}
+
+fn expect_refused(
+    rt: &impl Abort,
+    alloc: Global,
+    logic: Logic,
+    text: &[u8],
+    code: Code,
+    at: usize,
+) {
+    let mut names = Names::new(alloc);
+    match read_plain_formula(alloc, &mut names, logic, text) {
+        Err(refusal) => assert_eq!(rt; refusal, refused(code, at), "{logic:?} {text:?}"),
+        Ok(_) => panic!(rt; "{logic:?} {text:?}"),
+    }
+}
+
+/// The piece many times.
+fn repeated(alloc: Global, piece: &[u8], count: usize) -> Result<Vec<u8>, OutOfMemory> {
+    let mut text = Vec::new(alloc);
+    for _ in 0..count {
+        text.extend_from_slice(piece)?;
+    }
+    Ok(text)
+}
+
+#[test]
+fn texts_are_accepted(rt: HostRuntime) {
+    let table: [(Logic, &[u8]); 19] = [
+        (Lkf, b"tt+"),
+        (Lkf, b"ff-"),
+        (Lkf, b"allp"),
+        (Lkf, b"~some_1Z(a)"),
+        (Lkf, b"all tt+"),
+        (Lkf, b"some all p(#1,#0)"),
+        (Lkf, b"(p |- ~q)"),
+        (Lkf, b"((p &+ all q) |+ tt-)"),
+        (Lkf, b"(all all p(#1) &- some q(#0))"),
+        (Lkf, b"p(f($0,$999999999),g(a),b)"),
+        (Ljf, b"+p"),
+        (Ljf, b"-p(a)"),
+        (Ljf, b"ff"),
+        (Ljf, b"tt-"),
+        (Ljf, b"(+p => -q)"),
+        (Ljf, b"(ff | tt+)"),
+        (Ljf, b"((+p &+ -q) => ff)"),
+        (Ljf, b"all (+p(#0) &- -q)"),
+        (Ljf, b"some all -p(#1)"),
+    ];
+    for (logic, text) in table {
+        expect_accepted(&rt, rt.alloc(), logic, text);
+    }
+}
+
+#[test]
+fn texts_are_refused_at_their_first_wrong_byte(rt: HostRuntime) {
+    let table: [(Logic, &[u8], usize); 27] = [
+        (Lkf, b"", 0),
+        (Lkf, b"P", 0),
+        (Lkf, b"+p", 0),
+        (Lkf, b"$0", 0),
+        (Lkf, b"tt", 2),
+        (Lkf, b"tt*", 2),
+        (Lkf, b"p ", 1),
+        (Lkf, b"p\n", 1),
+        (Lkf, b"(p)", 2),
+        (Lkf, b"(p => q)", 3),
+        (Lkf, b"(p |- q", 7),
+        (Lkf, b"all(a)", 3),
+        (Lkf, b"p(00)", 2),
+        (Lkf, b"p($00)", 4),
+        (Lkf, b"p($1234567890)", 12),
+        (Lkf, b"p(a,)", 4),
+        (Lkf, b"p()", 2),
+        (Lkf, b"p(#0)", 2),
+        (Lkf, b"all p(#1)", 7),
+        (Lkf, b"some all p(#12)", 13),
+        (Lkf, b"p(all)", 5),
+        (Ljf, b"p", 0),
+        (Ljf, b"+P", 1),
+        (Ljf, b"ff+", 2),
+        (Ljf, b"(+p |- -q)", 5),
+        (Ljf, b"-formula", 8),
+        (Ljf, b"+all(a)", 4),
+    ];
+    for (logic, text, at) in table {
+        expect_refused(&rt, rt.alloc(), logic, text, Code::Unexpected, at);
+    }
+}
+
+#[test]
+fn texts_that_are_cut_off_are_refused_at_their_end(rt: HostRuntime) {
+    let text: &[u8] = b"(all p(#0,f($12)) |- (tt+ &- ~q_1))";
+    expect_accepted(&rt, rt.alloc(), Lkf, text);
+    for at in 0..text.len() {
+        expect_refused(&rt, rt.alloc(), Lkf, &text[..at], Code::Unexpected, at);
+    }
+}
+
+#[test]
+fn limits_are_told_where_they_are_passed(rt: HostRuntime) -> Result<(), Fail> {
+    let alloc = rt.alloc();
+    let name = repeated(alloc, b"p", 256)?;
+    expect_accepted(&rt, alloc, Lkf, &name[..255]);
+    expect_refused(&rt, alloc, Lkf, name.as_slice(), Code::LongName, 255);
+    let mut arguments = Vec::from_array(alloc, *b"p(a")?;
+    arguments.extend_from_slice(repeated(alloc, b",a", 255)?.as_slice())?;
+    expect_refused(
+        &rt,
+        alloc,
+        Lkf,
+        arguments.as_slice(),
+        Code::ManyArguments,
+        511,
+    );
+    let mut deep = repeated(alloc, b"all ", 10_000)?;
+    deep.extend_from_slice(b"tt+")?;
+    expect_accepted(&rt, alloc, Ljf, &deep[4..]);
+    expect_refused(&rt, alloc, Ljf, deep.as_slice(), Code::TooDeep, 40_000);
+    Ok(())
+}
+
+#[test]
+fn nodes_are_those_of_the_text(rt: HostRuntime) -> Result<(), Fail> {
+    let alloc = rt.alloc();
+    let mut names = Names::new(alloc);
+    let p = names.intern(b"p")?;
+    let a = names.intern(b"a")?;
+    let text = b"all (~p(#0,a) |- tt+)";
+    let nodes = [
+        Node::ForAll,
+        Node::Or(Polarity::Negative),
+        Node::Atom {
+            positive: false,
+            name: p,
+            arguments: 2,
+        },
+        Node::Inside(Cell::Bound(0)),
+        Node::Inside(Cell::App(a, 0)),
+        Node::True(Polarity::Positive),
+    ];
+    match read_plain_formula(alloc, &mut names, Lkf, text) {
+        Ok(formula) => assert_eq!(rt; formula.nodes(), nodes.as_slice()),
+        Err(refusal) => panic!(rt; "{refusal:?}"),
+    }
+    Ok(())
+}
+
+#[test]
+fn a_million_applications_are_read(rt: HostRuntime) -> Result<(), Fail> {
+    let alloc = rt.alloc();
+    let mut text = Vec::from_array(alloc, *b"p(")?;
+    text.extend_from_slice(repeated(alloc, b"f(", 1_000_000)?.as_slice())?;
+    text.extend_from_slice(b"a")?;
+    text.extend_from_slice(repeated(alloc, b")", 1_000_001)?.as_slice())?;
+    expect_accepted(&rt, alloc, Lkf, text.as_slice());
+    Ok(())
+}
