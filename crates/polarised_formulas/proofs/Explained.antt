@@ -27,7 +27,7 @@ module _ (text : ℕ → List ℕ) (number : List ℕ → ℕ) (back : GivesBack
       by true d k =
           let a : p ≡ place = cc in
           let l : p < 67108864 = grind (arith, nat_tests) in
-          inl (inl (rw (sym a) l), refusal_is_told text number back logic of_formula bytes code place (e ∙ k))
+          inl (inl (rw (sym a) l), (refusal_is_told text number back logic of_formula bytes code place).0 (e ∙ k))
       by false d k =
           let a : TooLarge ≡ code = cc in
           let b : 67108864 ≡ place = cc in
@@ -39,7 +39,7 @@ module _ (text : ℕ → List ℕ) (number : List ℕ → ℕ) (back : GivesBack
     where
       by : (t : Bool) → nat_le (length bytes) 67108864 ≡ t
           → (if t then outcome number logic (start of_formula) 0 bytes else cut 67108864 (outcome number logic (start of_formula) 0 bytes)) ≡ refused code place → IsPlainRefusal text number logic bytes code place
-      by true d k = let l : length bytes ≤ 67108864 = grind (arith, nat_tests) in inl (inr l, refusal_is_told text number back logic of_formula bytes code place k)
+      by true d k = let l : length bytes ≤ 67108864 = grind (arith, nat_tests) in inl (inr l, (refusal_is_told text number back logic of_formula bytes code place).0 k)
       by false d k = let l : 67108864 < length bytes = grind (arith, nat_tests) in explained-cut (outcome number logic (start of_formula) 0 bytes) refl l k
 
 pub explained : (names : List (List ℕ)) → AreDifferent names → (logic : Logic) (bytes : List ℕ) (result : Result Formula ParseRefusal) → IsAnswer names logic bytes result → IsExplained names logic bytes result
