@@ -1,12 +1,16 @@
 -- Why the program answers as it does, and what it writes.
-use Rattle.std.specs.Prelude.{◌≡◌, ◌≢◌, ◌⊎◌, ℕ, ◌<◌, List, length, Option, Result, Ok, Err}
+use Rattle.std.specs.Prelude.{◌≡◌, ◌≢◌, ◌⊎◌, ℕ, ◌<◌, ◌≤◌, List, [], length, Option, Result, Ok, Err}
+use Rattle.fpc_base.specs.Lexeme.{items_of}
+use Rattle.fpc_base.specs.Reading.{RefusesAll}
 use Rattle.fpc_base.specs.Outside.{Content, untold, missing, holds, Rose, Adds, AddsPrefix}
 use Rattle.fpc_base.specs.declared.refusal.Refusal.{Refusal}
 use Rattle.fpc_base.specs.declared.refusal.Code.TheVariants.{TooLarge}
 use Rattle.fpc_terms.specs.Name.{AreDifferent}
 use Rattle.polarised_formulas.specs.declared.logic.Logic.TheVariants.{Lkf}
 use Rattle.polarised_formulas.specs.Formula.{Formula, IsClosed, IsLkf}
-use Rattle.polarised_formulas.specs.ReadProblem.{ProblemIsRead, IsRefusedAsProblem}
+use Rattle.polarised_formulas.specs.Written.{IsProblem}
+use Rattle.polarised_formulas.specs.Place.{ProblemLimits}
+use Rattle.polarised_formulas.specs.ReadProblem.{ProblemIsRead}
 use Rattle.lkf_rules.specs.Derivation.{IsDerivable}
 use Rattle.explicit_kernel.specs.Progress.{HasSpelling, ComesTo}
 use Rattle.explicit_kernel.specs.Check.{IsPlainRefusal}
@@ -50,13 +54,14 @@ pub record SpellsGoal (content : Content) (goal : Formula) : Type 0 where
   pub names : List (List ℕ)
   pub held : MayHold content bytes
   pub different : AreDifferent names
-  pub read : ProblemIsRead bytes names Lkf goal
+  pub size : length bytes ≤ 16777216
+  pub read : ProblemIsRead (items_of bytes) names Lkf goal
 
 -- why a problem's file is refused: for its size, or by the grammar at the first place where it is no problem's
 abbrev pub IsProblemRefused : Content → Refusal → Type 0
 IsProblemRefused content refusal =
     ((refusal ≡ record { code = TooLarge; at = 16777216 }) × MayBeTooLarge content)
-    ⊎ ((bytes : List ℕ) × (MayHold content bytes × IsRefusedAsProblem bytes refusal))
+    ⊎ ((bytes : List ℕ) × (MayHold content bytes × (length bytes ≤ 16777216) × RefusesAll IsProblem ProblemLimits (length bytes) [] (items_of bytes) refusal))
 
 -- a refusal of a file: of a problem as its grammar tells it, of a certificate as the kernel tells it
 abbrev pub IsRefusalOf : Role → Asked → (List ℕ → Content) → Refusal → Type 0

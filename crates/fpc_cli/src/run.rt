@@ -4,7 +4,7 @@ ghost use Rattle.fpc_base.specs.Outside.{missing};
 ghost use Rattle.polarised_formulas.specs.Formula.{IsClosed, IsLkf};
 ghost use Rattle.polarised_formulas.specs.declared.logic.Logic.TheVariants.{Lkf};
 ghost use Rattle.fpc_cli.specs.Command.{asked_by, verify as asked_to_verify};
-ghost use Rattle.fpc_cli.specs.Run.{HasFilesTo, IsCaused, IsAnswered, IsPut, IsAnswerOf};
+ghost use Rattle.fpc_cli.specs.Run.{HasFilesTo, SpellsGoal, IsCaused, IsAnswered, IsPut, IsAnswerOf};
 
 use crate::answer::{Answer, Role, WANT_OF_MEMORY, status, text_of};
 use crate::command::{Command, command_of};
@@ -34,6 +34,7 @@ fn problem_in<F: Files>(
     ensures logic { IfOk result (λ p. p.logic ≡ Lkf) }
     ensures closed { IfOk result (λ p. IsClosed p.goal) }
     ensures lkf { IfOk result (λ p. IsLkf p.goal) }
+    ensures spelled { IfOk result (λ p. SpellsGoal (F.content files.old name.now) p.goal) }
     ensures there { OnOk result (F.content files.old name.now ≢ missing) }
     ensures count { OnOk result (F.faults files.new ≡ F.faults files.old) }
     ensures caused { IfErr result (λ a. (explicit : List ℕ) → IsCaused (asked_to_verify name.now explicit) (F.content files.old) (F.faults files.old) (F.faults files.new) a) }
@@ -58,7 +59,10 @@ fn problem_in<F: Files>(
         }
     };
     match read_problem(alloc, names, bytes.as_slice()) {
-        Ok(problem) => Ok(problem),
+        Ok(problem) => {
+            names.distinct();
+            Ok(problem)
+        }
         Err(ParseRefusal::Refused(refusal)) => Err(Answer::Refused {
             role: Role::Problem,
             refusal,
@@ -97,7 +101,7 @@ fn judged<F: Files, L: Ledger>(
     requires name { blank.name ≡ L.name }
     requires parts { blank.parts ≡ L.parts }
     requires one { 0 < L.parts }
-    ensures caused { (p e : List ℕ) → HasFilesTo Role.Explicit (asked_to_verify p e) (F.content files.old) → IsCaused (asked_to_verify p e) (F.content files.old) (F.faults files.old) (F.faults files.new) result }
+    ensures caused { (p e : List ℕ) → SpellsGoal (F.content files.old p) problem.now.goal → HasFilesTo Role.Explicit (asked_to_verify p e) (F.content files.old) → IsCaused (asked_to_verify p e) (F.content files.old) (F.faults files.old) (F.faults files.new) result }
     ensures never_falls { F.faults files.old ≤ F.faults files.new }
     ensures content { F.content files.new ≡ F.content files.old }
 {
@@ -116,7 +120,7 @@ fn checked<F: Files>(
     requires logic { problem.now.logic ≡ Lkf }
     requires closed { IsClosed problem.now.goal }
     requires lkf { IsLkf problem.now.goal }
-    ensures caused { (p : List ℕ) → F.content files.old p ≢ missing → IsCaused (asked_to_verify p name.now) (F.content files.old) (F.faults files.old) (F.faults files.new) result }
+    ensures caused { (p : List ℕ) → SpellsGoal (F.content files.old p) problem.now.goal → F.content files.old p ≢ missing → IsCaused (asked_to_verify p name.now) (F.content files.old) (F.faults files.old) (F.faults files.new) result }
     ensures never_falls { F.faults files.old ≤ F.faults files.new }
     ensures content { F.content files.new ≡ F.content files.old }
 {
