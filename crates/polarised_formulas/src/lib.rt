@@ -23,7 +23,7 @@ pub use formula::Formula;
 pub use list::Formulas;
 pub use logic::{Logic, Polarity, Side};
 pub use node::Node;
-pub use read::read_formula;
 pub use print::{print_formula, print_problem};
 pub use problem::{Problem, read_problem};
+pub use read::read_formula;
 pub use step::Step;
