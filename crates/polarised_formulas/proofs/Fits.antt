@@ -28,7 +28,6 @@ not-equal a b h = grind (arith, nat_tests)
 pub less-than : (a b : ℕ) → nat_eq a b ≡ false → a ≤ b → a < b
 less-than a b h le = grind (arith, nat_tests)
 
-
 module _ (logic : Logic) (parameters : List (List ℕ)) where
   -- no limit forbids any of the tokens from the state on
   abbrev pub Fits : FormulaState → List Lexeme → Type 0

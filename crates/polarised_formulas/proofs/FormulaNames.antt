@@ -51,14 +51,15 @@ module _ (names parameters : List (List ℕ)) (d : AreDifferent names) where
       → AllNamesBelow (length names) (formula_meant (index_in names) parameters scope w)
   formula-below scope (true_unit p) h = tt
   formula-below scope (false_unit p) h = tt
-  formula-below scope (literal positive x ts) h =
-      (number-below names x d (λ number a. atom-name _ _ (number x) (index_in names x) _ _ (h number a)),
-       args-below names d (variable_meant parameters scope) (λ y. leaf-below (length names) parameters scope y (is_one_of scope y)) ts
-         (λ number a. atom-args _ _ (number x) (index_in names x) _ _ (h number a)))
+  formula-below scope (literal positive x ts) h = (
+    number-below names x d (λ number a. atom-name _ _ (number x) (index_in names x) _ _ (h number a)),
+    args-below names d (variable_meant parameters scope) (λ y. leaf-below (length names) parameters scope y (is_one_of scope y)) ts
+        (λ number a. atom-args _ _ (number x) (index_in names x) _ _ (h number a)),
+  )
   formula-below scope (pair j a b) h =
       joined-below (length names) j _ _
-        (formula-below scope a (λ number e. joined-first j _ _ _ _ (h number e)))
-        (formula-below scope b (λ number e. joined-second j _ _ _ _ (h number e)))
+      (formula-below scope a (λ number e. joined-first j _ _ _ _ (h number e)))
+      (formula-below scope b (λ number e. joined-second j _ _ _ _ (h number e)))
   formula-below scope (bind ForAll x a) h = formula-below (x ∷ scope) a (λ number e. for_all-body _ _ (h number e))
   formula-below scope (bind Exists x a) h = formula-below (x ∷ scope) a (λ number e. exists-body _ _ (h number e))
 

@@ -80,7 +80,7 @@ takes-token result names more parameters (reading logic s) c old formula h m e i
     let g = subst (λ (ps : List (List ℕ)). (logic : Logic) (t : FormulaState) → HoldsFor names logic ps t old.formula → TakesFor result more logic ps (limited logic ps t c) formula) i f in
     let k = token-taken result more s c old formula m (g Lkf s h.2) in
     subst (λ (o : Result ProblemState Code). TakesProblem result more o (record old { formula = formula }))
-      (sym (limited-reading logic s c e ∙ ap (λ (l : Logic). read_within l (limited l [] s c)) h.0)) k
+    (sym (limited-reading logic s c e ∙ ap (λ (l : Logic). read_within l (limited l [] s c)) h.0)) k
 takes-token result names more parameters (finished logic w) c old formula h m e i f = let p = h.1 in let n : ⊥ = cc in absurd n
 takes-token result names more parameters lost c old formula h m e i f = absurd h
 

@@ -85,11 +85,16 @@ module _ (logic : Logic) (parameters : List (List ℕ)) where
   pub told-for : (result : Result (Unit {0}) TokenRefusal) (names : List (List ℕ)) (next : Result FormulaState Code) (r : FormulaReader) → AreDifferent names
       → ((number : List ℕ → ℕ) → Agrees number names → Takes result number logic parameters next r) → TakesFor result names logic parameters next r
   told-for (Ok u) names next r d h =
-      let first : (t : FormulaState) × ((next ≡ Ok t) × Holds (index_in names) logic parameters t r) = h (index_in names) (Agrees-index_in names d) in
-      (first.0, (first.1.0, λ number a.
-        (let other : (t : FormulaState) × ((next ≡ Ok t) × Holds number logic parameters t r) = h number a in
-         let e : other.0 ≡ first.0 = same-state next first.0 other.0 first.1.0 other.1.0 in
-         subst (λ (t : FormulaState). Holds number logic parameters t r) e other.1.1)))
+      let first : (t : FormulaState) × ((next ≡ Ok t) × Holds (index_in names) logic parameters t r) = h (index_in names) (Agrees-index_in names d) in (
+        first.0,
+        (
+          first.1.0,
+          λ number a.
+              (let other : (t : FormulaState) × ((next ≡ Ok t) × Holds number logic parameters t r) = h number a in
+              let e : other.0 ≡ first.0 = same-state next first.0 other.0 first.1.0 other.1.0 in
+              subst (λ (t : FormulaState). Holds number logic parameters t r) e other.1.1),
+        ),
+      )
   told-for (Err (Refused code)) names next r d h = h (index_in names) (Agrees-index_in names d)
   told-for (Err OutOfMemory) names next r d h = tt
 

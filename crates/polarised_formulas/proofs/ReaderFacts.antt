@@ -136,7 +136,7 @@ module _ (number : List ℕ → ℕ) (parameters : List (List ℕ)) where
 
   goes : (logic : Logic) (q : Binder) (x : List ℕ) (w : WrittenFormula) (p : Place) → Leaves logic (bind q x w) p
       → building.left_of (building.bind q (formula_meant number parameters (x ∷ scope_at p) w)) (holes_at number parameters p)
-        ≡ building.left_of (formula_meant number parameters (scope_at p) (bind q x w)) (holes_at number parameters p)
+      ≡ building.left_of (formula_meant number parameters (scope_at p) (bind q x w)) (holes_at number parameters p)
       → Leaves logic w (under q x p)
   goes logic q x w p l e =
       let f : length (scope_at l.place) ≤ length (scope_at p) = l.few in
@@ -214,7 +214,7 @@ module _ (number : List ℕ → ℕ) (logic : Logic) (parameters : List (List �
       → length (building.holes_in r.builder) ≡ 10000 → begins_within b s ≡ Err TooDeep
   refuses-deep b s r h m e =
       at-wants number s h.live (sym h.mode ∙ m) (λ (u : FormulaState). Holds number logic parameters u r → begins_within b u ≡ Err TooDeep)
-        (λ p g. rw (deep-told p r g e) refl) h
+      (λ p g. rw (deep-told p r g e) refl) h
 
   pub takes-begun : (b : Beginning) (s : FormulaState) (result : Result (Unit {0}) TokenRefusal) (old made new : FormulaReader) → Holds number logic parameters s old → old.mode ≡ mode.Wants
       → (length (building.holes_in old.builder) ≡ 10000 → ⊥) → OnOk result (new ≡ made) → IfErr result (λ (e : TokenRefusal). e ≡ OutOfMemory)
@@ -222,15 +222,15 @@ module _ (number : List ℕ → ℕ) (logic : Logic) (parameters : List (List �
       → Takes result number logic parameters (begins_within b s) new
   takes-begun b s result old made new h m f o x k =
       at-wants number s h.live (sym h.mode ∙ m) (λ (u : FormulaState). Holds number logic parameters u old → Takes result number logic parameters (begins_within b u) new)
-        (λ p g. takes-made result (begins_within b (wants p)) (begun_by b p) made new o x (rw (shallow-told p old g f) refl) (k p g)) h
+      (λ p g. takes-made result (begins_within b (wants p)) (begun_by b p) made new o x (rw (shallow-told p old g f) refl) (k p g)) h
 
   -- a sign that a formula begins with
   pub takes-sign : (s : FormulaState) (sign : Sign) (b : Beginning) (result : Result (Unit {0}) TokenRefusal) (old new : FormulaReader) → Holds number logic parameters s old → old.mode ≡ mode.Wants
       → beginning_of old.logic sign ≡ Some b → Takes result number logic parameters (begins_within b s) new → Takes result number logic parameters (limited logic parameters s (a_sign sign)) new
   takes-sign s sign b result old new h m e t =
       at-wants number s h.live (sym h.mode ∙ m)
-        (λ (u : FormulaState). Takes result number logic parameters (begins_within b u) new → Takes result number logic parameters (limited logic parameters u (a_sign sign)) new)
-        (λ p k. subst (λ (o : Result FormulaState Code). Takes result number logic parameters o new) (sym (limited-begun logic parameters sign b p (ap (λ (l : Logic). beginning_of l sign) (sym h.in_logic) ∙ e))) k) t
+      (λ (u : FormulaState). Takes result number logic parameters (begins_within b u) new → Takes result number logic parameters (limited logic parameters u (a_sign sign)) new)
+      (λ p k. subst (λ (o : Result FormulaState Code). Takes result number logic parameters o new) (sym (limited-begun logic parameters sign b p (ap (λ (l : Logic). beginning_of l sign) (sym h.in_logic) ∙ e))) k) t
 
   lkf-name : (x : List ℕ) (p : Place) (deep : Bool) → logic ≡ Lkf → nat_eq (nesting p) 10001 ≡ deep → limited logic parameters (wants p) (a_name x) ≡ within deep false (named true x p)
   lkf-name x p deep l e = rw l (ap (λ (d : Bool). within d false (named true x p)) e)
@@ -239,7 +239,7 @@ module _ (number : List ℕ → ℕ) (logic : Logic) (parameters : List (List �
       → limited logic parameters s (a_name x) ≡ Err TooDeep
   refuses-name s x r h m l e =
       at-wants number s h.live (sym h.mode ∙ m) (λ (u : FormulaState). Holds number logic parameters u r → limited logic parameters u (a_name x) ≡ Err TooDeep)
-        (λ p g. lkf-name x p true l (deep-told p r g e)) h
+      (λ p g. lkf-name x p true l (deep-told p r g e)) h
 
   -- the name of an atom without a mark
   pub takes-plain_name : (s : FormulaState) (x : List ℕ) (result : Result (Unit {0}) TokenRefusal) (old new : FormulaReader) (names : List (List ℕ)) → Holds number logic parameters s old → old.mode ≡ mode.Wants → logic ≡ Lkf
@@ -248,14 +248,20 @@ module _ (number : List ℕ → ℕ) (logic : Logic) (parameters : List (List �
       → Takes result number logic parameters (limited logic parameters s (a_name x)) new
   takes-plain_name s x (Ok u) old new names h m l f a o y =
       at-wants number s h.live (sym h.mode ∙ m) (λ (u : FormulaState). Holds number logic parameters u old → Takes (Ok tt) number logic parameters (limited logic parameters u (a_name x)) new)
-        (λ p g. (named true x p, (lkf-name x p false l (shallow-told p old g f), rw o.2 (record {
-          in_logic = g.in_logic;
-          mode = ap (mode.Named true) (sym (a o.0 o.1));
-          builder = g.builder;
-          bound = g.bound;
-          arguments = tt;
-          live = tt;
-        })))) h
+      (λ p g. (
+        named true x p,
+        (
+          lkf-name x p false l (shallow-told p old g f),
+          rw o.2 (record {
+            in_logic = g.in_logic;
+            mode = ap (mode.Named true) (sym (a o.0 o.1));
+            builder = g.builder;
+            bound = g.bound;
+            arguments = tt;
+            live = tt;
+          }),
+        ),
+      )) h
   takes-plain_name s x (Err (Refused k)) old new names h m l f a o y = let n : ⊥ = cc in absurd n
   takes-plain_name s x (Err OutOfMemory) old new names h m l f a o y = tt
 
@@ -283,10 +289,10 @@ module _ (number : List ℕ → ℕ) (logic : Logic) (parameters : List (List �
       → building.takes_joiner (building.left r.builder) ≡ false → limited logic parameters s (a_sign sign) ≡ Err Unexpected
   refuses-join s sign j r h m e f =
       at-has number s h.live (sym h.mode ∙ m) (λ (u : FormulaState). Holds number logic parameters u r → limited logic parameters u (a_sign sign) ≡ Err Unexpected)
-        (λ w p g. (let l = leaves number parameters logic w p in
-          let k : building.takes_joiner (building.left_of (formula_meant number parameters (scope_at p) w) (holes_at number parameters p)) ≡ false = rw g.builder at f in
-          after-limited w p (a_sign sign) stuck
-            (refuses-join-at w l.formula p l.place sign j e (l.after_it (a_sign sign)) l.outer (rw l.left at k)))) h
+      (λ w p g. (let l = leaves number parameters logic w p in
+      let k : building.takes_joiner (building.left_of (formula_meant number parameters (scope_at p) w) (holes_at number parameters p)) ≡ false = rw g.builder at f in
+      after-limited w p (a_sign sign) stuck
+      (refuses-join-at w l.formula p l.place sign j e (l.after_it (a_sign sign)) l.outer (rw l.left at k)))) h
 
   takes-join-at : (w v : WrittenFormula) (p q : Place) (s : Sign) (j : Joiner) (old : FormulaReader) → joiner_of logic s ≡ Some j → after logic w p (a_sign s) ≡ after logic v q (a_sign s)
       → ((b : Binder) (x : List ℕ) (r : Place) → q ≡ under b x r → ⊥) → old.logic ≡ logic
@@ -297,16 +303,20 @@ module _ (number : List ℕ → ℕ) (logic : Logic) (parameters : List (List �
   takes-join-at w v p (in_second i c q) s j old e a o l b k f = let n : ⊥ = cc in absurd n
   takes-join-at w v p (under c x q) s j old e a o l b k f = absurd (o c x q refl)
   takes-join-at w v p (in_first q) s j old e a o l b k f =
-      let z : after logic w p (a_sign s) ≡ wants (in_second j v q) = a ∙ (rw e refl) in
-      (wants (in_second j v q), (after-limited w p (a_sign s) (wants (in_second j v q)) z,
-        record {
-          in_logic = l;
-          mode = refl;
-          builder = rw b refl;
-          bound = rw (b, quantifiers-scope number parameters q) k;
-          arguments = tt;
-          live = tt;
-        }))
+      let z : after logic w p (a_sign s) ≡ wants (in_second j v q) = a ∙ (rw e refl) in (
+        wants (in_second j v q),
+        (
+          after-limited w p (a_sign s) (wants (in_second j v q)) z,
+          record {
+            in_logic = l;
+            mode = refl;
+            builder = rw b refl;
+            bound = rw (b, quantifiers-scope number parameters q) k;
+            arguments = tt;
+            live = tt;
+          },
+        ),
+      )
 
   -- an operator
   pub takes-join : (s : FormulaState) (sign : Sign) (j : Joiner) (old new : FormulaReader) → Holds number logic parameters s old → old.mode ≡ mode.Has → joiner_of logic sign ≡ Some j
@@ -314,10 +324,10 @@ module _ (number : List ℕ → ℕ) (logic : Logic) (parameters : List (List �
       → (t : FormulaState) × ((limited logic parameters s (a_sign sign) ≡ Ok t) × Holds number logic parameters t new)
   takes-join s sign j old new h m e f d =
       rw d (at-has number s h.live (sym h.mode ∙ m)
-        (λ (u : FormulaState). Holds number logic parameters u old → (t : FormulaState) × ((limited logic parameters u (a_sign sign) ≡ Ok t) × Holds number logic parameters t (joined_reader j old)))
-        (λ w p g. (let l = leaves number parameters logic w p in
-          let b : building.left old.builder ≡ building.has (formula_meant number parameters (scope_at l.place) l.formula) (holes_at number parameters l.place) = rw g.builder l.left in
-          takes-join-at w l.formula p l.place sign j old e (l.after_it (a_sign sign)) l.outer g.in_logic b (rw g.bound l.scope) (rw b at f))) h)
+      (λ (u : FormulaState). Holds number logic parameters u old → (t : FormulaState) × ((limited logic parameters u (a_sign sign) ≡ Ok t) × Holds number logic parameters t (joined_reader j old)))
+      (λ w p g. (let l = leaves number parameters logic w p in
+      let b : building.left old.builder ≡ building.has (formula_meant number parameters (scope_at l.place) l.formula) (holes_at number parameters l.place) = rw g.builder l.left in
+      takes-join-at w l.formula p l.place sign j old e (l.after_it (a_sign sign)) l.outer g.in_logic b (rw g.bound l.scope) (rw b at f))) h)
 
   -- the reader behind a parenthesis that closes a pair
   abbrev pub closed_reader : FormulaReader → FormulaReader
@@ -341,10 +351,10 @@ module _ (number : List ℕ → ℕ) (logic : Logic) (parameters : List (List �
       → building.takes_close (building.left r.builder) ≡ false → limited logic parameters s (a_sign sign.CloseParenthesis) ≡ Err Unexpected
   refuses-close s r h m f =
       at-has number s h.live (sym h.mode ∙ m) (λ (u : FormulaState). Holds number logic parameters u r → limited logic parameters u (a_sign sign.CloseParenthesis) ≡ Err Unexpected)
-        (λ w p g. (let l = leaves number parameters logic w p in
-          let k : building.takes_close (building.left_of (formula_meant number parameters (scope_at p) w) (holes_at number parameters p)) ≡ false = rw g.builder at f in
-          after-limited w p (a_sign sign.CloseParenthesis) stuck
-            (refuses-close-at w l.formula p l.place (l.after_it (a_sign sign.CloseParenthesis)) l.outer (rw l.left at k)))) h
+      (λ w p g. (let l = leaves number parameters logic w p in
+      let k : building.takes_close (building.left_of (formula_meant number parameters (scope_at p) w) (holes_at number parameters p)) ≡ false = rw g.builder at f in
+      after-limited w p (a_sign sign.CloseParenthesis) stuck
+      (refuses-close-at w l.formula p l.place (l.after_it (a_sign sign.CloseParenthesis)) l.outer (rw l.left at k)))) h
 
   takes-close-at : (w v : WrittenFormula) (p q : Place) (old : FormulaReader) → after logic w p (a_sign sign.CloseParenthesis) ≡ after logic v q (a_sign sign.CloseParenthesis)
       → ((b : Binder) (x : List ℕ) (r : Place) → q ≡ under b x r → ⊥) → old.logic ≡ logic → old.mode ≡ mode.Has
@@ -354,16 +364,20 @@ module _ (number : List ℕ → ℕ) (logic : Logic) (parameters : List (List �
   takes-close-at w v p whole old a o l m b k f = let n : ⊥ = cc in absurd n
   takes-close-at w v p (in_first q) old a o l m b k f = let n : ⊥ = cc in absurd n
   takes-close-at w v p (under c x q) old a o l m b k f = absurd (o c x q refl)
-  takes-close-at w v p (in_second i c q) old a o l m b k f =
-      (has (pair i c v) q, (after-limited w p (a_sign sign.CloseParenthesis) (has (pair i c v) q) a,
-        record {
-          in_logic = l;
-          mode = m;
-          builder = rw (b, join-by) refl;
-          bound = rw (b, quantifiers-scope number parameters q) k;
-          arguments = tt;
-          live = tt;
-        }))
+  takes-close-at w v p (in_second i c q) old a o l m b k f = (
+    has (pair i c v) q,
+    (
+      after-limited w p (a_sign sign.CloseParenthesis) (has (pair i c v) q) a,
+      record {
+        in_logic = l;
+        mode = m;
+        builder = rw (b, join-by) refl;
+        bound = rw (b, quantifiers-scope number parameters q) k;
+        arguments = tt;
+        live = tt;
+      },
+    ),
+  )
 
   -- a parenthesis that closes a pair
   pub takes-close : (s : FormulaState) (old new : FormulaReader) → Holds number logic parameters s old → old.mode ≡ mode.Has
@@ -371,24 +385,24 @@ module _ (number : List ℕ → ℕ) (logic : Logic) (parameters : List (List �
       → (t : FormulaState) × ((limited logic parameters s (a_sign sign.CloseParenthesis) ≡ Ok t) × Holds number logic parameters t new)
   takes-close s old new h m f d =
       rw d (at-has number s h.live (sym h.mode ∙ m)
-        (λ (u : FormulaState). Holds number logic parameters u old → (t : FormulaState) × ((limited logic parameters u (a_sign sign.CloseParenthesis) ≡ Ok t) × Holds number logic parameters t (closed_reader old)))
-        (λ w p g. (let l = leaves number parameters logic w p in
-          let b : building.left old.builder ≡ building.has (formula_meant number parameters (scope_at l.place) l.formula) (holes_at number parameters l.place) = rw g.builder l.left in
-          takes-close-at w l.formula p l.place old (l.after_it (a_sign sign.CloseParenthesis)) l.outer g.in_logic m b (rw g.bound l.scope) (rw b at f))) h)
+      (λ (u : FormulaState). Holds number logic parameters u old → (t : FormulaState) × ((limited logic parameters u (a_sign sign.CloseParenthesis) ≡ Ok t) × Holds number logic parameters t (closed_reader old)))
+      (λ w p g. (let l = leaves number parameters logic w p in
+      let b : building.left old.builder ≡ building.has (formula_meant number parameters (scope_at l.place) l.formula) (holes_at number parameters l.place) = rw g.builder l.left in
+      takes-close-at w l.formula p l.place old (l.after_it (a_sign sign.CloseParenthesis)) l.outer g.in_logic m b (rw g.bound l.scope) (rw b at f))) h)
 
   -- a sign behind a formula that is no connective
   pub refuses-sign : (s : FormulaState) (z : Sign) (r : FormulaReader) → Holds number logic parameters s r → r.mode ≡ mode.Has → joiner_of logic z ≡ None → (z ≡ sign.CloseParenthesis → ⊥)
       → limited logic parameters s (a_sign z) ≡ Err Unexpected
   refuses-sign s z r h m e n =
       at-has number s h.live (sym h.mode ∙ m) (λ (u : FormulaState). limited logic parameters u (a_sign z) ≡ Err Unexpected)
-        (λ w p. after-limited w p (a_sign z) stuck (no-joiner logic w p z e n))
+      (λ w p. after-limited w p (a_sign z) stuck (no-joiner logic w p z e n))
 
   -- a token behind a formula that is no sign
   pub refuses-other : (s : FormulaState) (c : code.Lexeme) (r : FormulaReader) → Holds number logic parameters s r → r.mode ≡ mode.Has → ((z : Sign) → c ≡ code.TheVariants.Sign z → ⊥)
       → limited logic parameters s (lexeme_as c) ≡ Err Unexpected
   refuses-other s c r h m n =
       at-has number s h.live (sym h.mode ∙ m) (λ (u : FormulaState). limited logic parameters u (lexeme_as c) ≡ Err Unexpected)
-        (λ w p. after-limited w p (lexeme_as c) stuck (after-other logic w p c n))
+      (λ w p. after-limited w p (lexeme_as c) stuck (after-other logic w p c n))
 
   -- the arguments of an atom begin
   pub takes-arguments : (s : FormulaState) (c : Lexeme) (positive : Bool) (k : ℕ) (old new : FormulaReader) → Holds number logic parameters s old → old.mode ≡ mode.Named positive k
@@ -397,15 +411,21 @@ module _ (number : List ℕ → ℕ) (logic : Logic) (parameters : List (List �
       → (t : FormulaState) × ((limited logic parameters s c ≡ Ok t) × Holds number logic parameters t new)
   takes-arguments s c positive k old new h m e d f =
       rw e (at-named number s positive k h.live (sym h.mode ∙ m)
-        (λ (u : FormulaState). Holds number logic parameters u old → (t : FormulaState) × ((limited logic parameters u (a_sign sign.OpenParenthesis) ≡ Ok t) × Holds number logic parameters t new))
-        (λ x p i g. (in_atom positive x (term.wants (in_arguments [])) p, (refl, record {
-          in_logic = ap (λ (r : FormulaReader). r.logic) d ∙ g.in_logic;
-          mode = ap (λ (r : FormulaReader). r.mode) d ∙ ap (mode.InAtom positive) (sym i);
-          builder = ap (λ (r : FormulaReader). r.builder) d ∙ g.builder;
-          bound = ap (λ (r : FormulaReader). r.bound) d ∙ g.bound;
-          arguments = f (variable_meant parameters (scope_at p));
-          live = tt;
-        }))) h)
+      (λ (u : FormulaState). Holds number logic parameters u old → (t : FormulaState) × ((limited logic parameters u (a_sign sign.OpenParenthesis) ≡ Ok t) × Holds number logic parameters t new))
+      (λ x p i g. (
+        in_atom positive x (term.wants (in_arguments [])) p,
+        (
+          refl,
+          record {
+            in_logic = ap (λ (r : FormulaReader). r.logic) d ∙ g.in_logic;
+            mode = ap (λ (r : FormulaReader). r.mode) d ∙ ap (mode.InAtom positive) (sym i);
+            builder = ap (λ (r : FormulaReader). r.builder) d ∙ g.builder;
+            bound = ap (λ (r : FormulaReader). r.bound) d ∙ g.bound;
+            arguments = f (variable_meant parameters (scope_at p));
+            live = tt;
+          },
+        ),
+      )) h)
 
   -- a token behind an atom without arguments is one behind a formula
   named-behind : (positive : Bool) (x : List ℕ) (p : Place) (c : Lexeme) → (c ≡ a_sign sign.OpenParenthesis → ⊥)
@@ -420,16 +440,16 @@ module _ (number : List ℕ → ℕ) (logic : Logic) (parameters : List (List �
       → Takes result number logic parameters (limited logic parameters s c) new
   takes-behind_name s c positive k result old made new h m n d f =
       at-named number s positive k h.live (sym h.mode ∙ m)
-        (λ (u : FormulaState). Holds number logic parameters u old → Takes result number logic parameters (limited logic parameters u c) new)
-        (λ x p i g. subst (λ (o : Result FormulaState Code). Takes result number logic parameters o new) (named-behind positive x p c n)
-          (f (has (literal positive x no_words) p) (rw d (record {
-            in_logic = g.in_logic;
-            mode = refl;
-            builder = rw (g.builder, sym i) refl;
-            bound = g.bound;
-            arguments = tt;
-            live = tt;
-          })))) h
+      (λ (u : FormulaState). Holds number logic parameters u old → Takes result number logic parameters (limited logic parameters u c) new)
+      (λ x p i g. subst (λ (o : Result FormulaState Code). Takes result number logic parameters o new) (named-behind positive x p c n)
+      (f (has (literal positive x no_words) p) (rw d (record {
+        in_logic = g.in_logic;
+        mode = refl;
+        builder = rw (g.builder, sym i) refl;
+        bound = g.bound;
+        arguments = tt;
+        live = tt;
+      })))) h
 
   true-same : (a b : Bool) → (IsTrue a → b ≡ true) → (b ≡ true → IsTrue a) → a ≡ b
   true-same true b f g = sym (f refl)
@@ -441,8 +461,8 @@ module _ (number : List ℕ → ℕ) (logic : Logic) (parameters : List (List �
       → (IsTrue b ↔ (length (building.holes_in r.builder) ≡ building.quantifiers_in (building.holes_in r.builder))) → b ≡ is_ended s
   ended-by s r b h m i =
       at-has number s h.live (sym h.mode ∙ m) (λ (u : FormulaState). Holds number logic parameters u r → b ≡ is_ended u)
-        (λ w p g. (let o = ended-told number parameters w p in
-          true-same b (is_some (ended_at w p)) (λ t. o.0 (rw g.builder at (i.0 t))) (λ t. i.1 (rw g.builder (o.1 t))))) h
+      (λ w p g. (let o = ended-told number parameters w p in
+      true-same b (is_some (ended_at w p)) (λ t. o.0 (rw g.builder at (i.0 t))) (λ t. i.1 (rw g.builder (o.1 t))))) h
 
   -- whether the formula is whole
   pub whole-by : (s : FormulaState) (r : FormulaReader) (b : Bool) → Holds number logic parameters s r → is_standing r.mode ≡ true
@@ -472,8 +492,8 @@ module _ (number : List ℕ → ℕ) (logic : Logic) (parameters : List (List �
       → building.whole (building.left (building.placed (atom positive k no_args) r.builder)) ≡ Some (formula_meant number parameters [] w)
   whole-named s r w positive k h e m =
       at-named number s positive k h.live (sym h.mode ∙ m)
-        (λ (u : FormulaState). Holds number logic parameters u r → whole_of u ≡ Some w → building.whole (building.left (building.placed (atom positive k no_args) r.builder)) ≡ Some (formula_meant number parameters [] w))
-        (λ x p i g f. rw (g.builder, sym i) (whole-left number parameters (literal positive x no_words) p w f)) h e
+      (λ (u : FormulaState). Holds number logic parameters u r → whole_of u ≡ Some w → building.whole (building.left (building.placed (atom positive k no_args) r.builder)) ≡ Some (formula_meant number parameters [] w))
+      (λ x p i g f. rw (g.builder, sym i) (whole-left number parameters (literal positive x no_words) p w f)) h e
 
   -- a token of the arguments, as one of the formula
   wants-err : (positive : Bool) (x : List ℕ) (p : Place) (s : Spot) (full : Bool) (code : Code) → term.within full false (term.wants s) ≡ Err code → within false full (in_atom positive x (term.wants s) p) ≡ Err code
@@ -517,8 +537,8 @@ module _ (number : List ℕ → ℕ) (logic : Logic) (parameters : List (List �
       → old.mode ≡ mode.InAtom positive k → TakesArgument (Err e) old.bound c old.terms terms → Takes (Err e) number logic parameters (limited logic parameters s c) new
   refuses-in_atom s c e positive k old new terms h m f =
       at-in_atom number s positive k h.live (sym h.mode ∙ m)
-        (λ (u : FormulaState). Holds number logic parameters u old → Takes (Err e) number logic parameters (limited logic parameters u c) new)
-        (λ x t p i g. err-takes positive x p t c e terms new (subst (λ (b : List (List ℕ)). TakesArgument (Err e) b c old.terms terms) g.bound f t g.arguments)) h
+      (λ (u : FormulaState). Holds number logic parameters u old → Takes (Err e) number logic parameters (limited logic parameters u c) new)
+      (λ x t p i g. err-takes positive x p t c e terms new (subst (λ (b : List (List ℕ)). TakesArgument (Err e) b c old.terms terms) g.bound f t g.arguments)) h
 
   held-atom : (positive : Bool) (x : List ℕ) (p : Place) (u : term.TermState) (k : ℕ) (old new : FormulaReader) → number x ≡ k → old.mode ≡ mode.InAtom positive k → old.logic ≡ logic
       → old.builder ≡ building.wants (holes_at number parameters p) → old.bound ≡ scope_at p → new ≡ record old { terms = new.terms }
@@ -536,10 +556,14 @@ module _ (number : List ℕ → ℕ) (logic : Logic) (parameters : List (List �
       → (t : FormulaState) × ((limited logic parameters s c ≡ Ok t) × Holds number logic parameters t new)
   takes-in_atom s c positive k old new h m f d n =
       at-in_atom number s positive k h.live (sym h.mode ∙ m)
-        (λ (u : FormulaState). Holds number logic parameters u old → (t : FormulaState) × ((limited logic parameters u c ≡ Ok t) × Holds number logic parameters t new))
-        (λ x t p i g. (let j = subst (λ (b : List (List ℕ)). TakesArgument (Ok tt) b c old.terms new.terms) g.bound f t g.arguments in
-          (within_atom positive x p j.0, (atom-ok positive x p (term.step (is_known parameters (scope_at p)) t c) j.0 j.1.0,
-            held-atom positive x p j.0 k old new i m g.in_logic g.builder g.bound d n j.1.1)))) h
+      (λ (u : FormulaState). Holds number logic parameters u old → (t : FormulaState) × ((limited logic parameters u c ≡ Ok t) × Holds number logic parameters t new))
+      (λ x t p i g. (let j = subst (λ (b : List (List ℕ)). TakesArgument (Ok tt) b c old.terms new.terms) g.bound f t g.arguments in (
+        within_atom positive x p j.0,
+        (
+          atom-ok positive x p (term.step (is_known parameters (scope_at p)) t c) j.0 j.1.0,
+          held-atom positive x p j.0 k old new i m g.in_logic g.builder g.bound d n j.1.1,
+        ),
+      ))) h
 
   -- the reader adds the atom, where its arguments are whole
   abbrev pub AddsAtom : Result (Unit {0}) TokenRefusal → Bool → ℕ → FormulaReader → FormulaReader → Type 0
@@ -553,7 +577,7 @@ module _ (number : List ℕ → ℕ) (logic : Logic) (parameters : List (List �
       → held.Holds number (variable_meant parameters (scope_at p)) u mid.terms → next ≡ Ok (within_atom positive x p u) → Takes result number logic parameters next new
   added-atom result next positive x p (term.ended args) k mid new i l b o m a y h e =
       takes-made result next (has (literal positive x args) p) _ new (a (variable_meant parameters (scope_at p)) args h) y e
-        (record { in_logic = l; mode = refl; builder = rw (b, sym i) refl; bound = o; arguments = tt; live = tt })
+      (record { in_logic = l; mode = refl; builder = rw (b, sym i) refl; bound = o; arguments = tt; live = tt })
   added-atom result next positive x p term.stuck k mid new i l b o m a y h e = absurd h.room
   added-atom result next positive x p (term.wants s) k mid new i l b o m a y h e = let d = h.mode in let n : ⊥ = cc in absurd n
   added-atom result next positive x p (term.named z s) k mid new i l b o m a y h e = let d = h.mode in let n : ⊥ = cc in absurd n
@@ -565,8 +589,8 @@ module _ (number : List ℕ → ℕ) (logic : Logic) (parameters : List (List �
       → AddsAtom result positive k mid new → IfErr result (λ (e : TokenRefusal). e ≡ OutOfMemory) → Takes result number logic parameters (limited logic parameters s c) new
   ends-atom s c positive k result old mid new h m f d n a y =
       at-in_atom number s positive k h.live (sym h.mode ∙ m)
-        (λ (u : FormulaState). Holds number logic parameters u old → Takes result number logic parameters (limited logic parameters u c) new)
-        (λ x t p i g. (let j = subst (λ (b : List (List ℕ)). TakesArgument (Ok tt) b c old.terms mid.terms) g.bound f t g.arguments in
-          added-atom result (limited logic parameters (in_atom positive x t p) c) positive x p j.0 k mid new i
-            (ap (λ (r : FormulaReader). r.logic) d ∙ g.in_logic) (ap (λ (r : FormulaReader). r.builder) d ∙ g.builder) (ap (λ (r : FormulaReader). r.bound) d ∙ g.bound) n a y j.1.1
-            (atom-ok positive x p (term.step (is_known parameters (scope_at p)) t c) j.0 j.1.0))) h
+      (λ (u : FormulaState). Holds number logic parameters u old → Takes result number logic parameters (limited logic parameters u c) new)
+      (λ x t p i g. (let j = subst (λ (b : List (List ℕ)). TakesArgument (Ok tt) b c old.terms mid.terms) g.bound f t g.arguments in
+      added-atom result (limited logic parameters (in_atom positive x t p) c) positive x p j.0 k mid new i
+      (ap (λ (r : FormulaReader). r.logic) d ∙ g.in_logic) (ap (λ (r : FormulaReader). r.builder) d ∙ g.builder) (ap (λ (r : FormulaReader). r.bound) d ∙ g.bound) n a y j.1.1
+      (atom-ok positive x p (term.step (is_known parameters (scope_at p)) t c) j.0 j.1.0))) h

@@ -29,4 +29,5 @@ pub use plain::read::read_plain_formula;
 pub use plain::reader::{PlainReader, Progress};
 pub use print::{print_formula, print_problem};
 pub use problem::{Problem, read_problem};
+pub use read::read_formula;
 pub use step::Step;

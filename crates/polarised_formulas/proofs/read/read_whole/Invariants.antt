@@ -9,7 +9,7 @@ abbrev pub invariant-reading : goal.invariant-reading
 invariant-reading l = record {
   on : IsOn l.fn.logic l.fn.parameters (length (source_of l.initial.start)) (items_left l.initial.start) (items_left l.tokens) l.names l.reader;
   names : Grows l.initial.names l.names;
-  source : source_of l.tokens ≡ source_of l.initial.start
+  source : source_of l.tokens ≡ source_of l.initial.start;
 }
 
 abbrev pub decreases-reading : goal.decreases-reading

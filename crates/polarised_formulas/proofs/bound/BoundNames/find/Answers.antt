@@ -26,5 +26,5 @@ loop-left-preserved c =
       counted = c.loop-left.invariant.counted;
       within = omega (arith, l);
       passed = Passed-next c.args.text.now c.args.self.now c.index.result.now.now (reverse (map (λ x. x.now) (take (c.loop-left.left - 1) items))) h
-        (λ i. let b = (bytes_decides c.index.result.now.now c.args.text.now).1 i in let a = c.eq.ensures in let n = c.if-eq.false in cc);
+          (λ i. let b = (bytes_decides c.index.result.now.now c.args.text.now).1 i in let a = c.eq.ensures in let n = c.if-eq.false in cc);
     }

@@ -10,5 +10,5 @@ returns-then-is c = λ number logic parameters s h m.
 pub returns-in-Ok : goal.returns-in-Ok
 returns-in-Ok c = λ number logic parameters s h m.
     takes-behind_name number logic parameters s (lexeme_as c.args.lexeme) c.args.positive c.args.name c.take_behind.result c.args.self.now c.add_plain_atom.new.self c.take_behind.new.self h m
-      (λ e. let d = c.is.ensures.1 e in let n = c.if-is.false in cc) c.in-Ok.ensures.ok
-      (λ u g. c.take_behind.ensures number logic parameters u g (rw c.in-Ok.ensures.ok refl))
+    (λ e. let d = c.is.ensures.1 e in let n = c.if-is.false in cc) c.in-Ok.ensures.ok
+    (λ u g. c.take_behind.ensures number logic parameters u g (rw c.in-Ok.ensures.ok refl))

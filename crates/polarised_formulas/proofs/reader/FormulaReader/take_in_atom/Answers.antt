@@ -10,9 +10,9 @@ returns-in-Err-clause-taken c = λ number logic s a h m.
 pub returns-then-not-is_ended-clause-taken : goal.returns-then-not-is_ended-clause-taken
 returns-then-not-is_ended-clause-taken c = λ number logic s a h m.
     takes-in_atom number logic c.args.parameters.now s (lexeme_as c.args.lexeme) c.args.positive c.args.name c.args.self.now (record c.args.self.now { terms = c.take_argument.new.terms }) h m (λ t g. c.in-Ok.ensures.taken number t a g) refl
-      (λ e. let d = c.is_ended.ensures.1 e in let n = c.if-not-is_ended.true in cc)
+    (λ e. let d = c.is_ended.ensures.1 e in let n = c.if-not-is_ended.true in cc)
 
 pub returns-clause-taken : goal.returns-clause-taken
 returns-clause-taken c = λ number logic s a h m.
     ends-atom number logic c.args.parameters.now s (lexeme_as c.args.lexeme) c.args.positive c.args.name c.add_atom.result c.args.self.now (record c.args.self.now { terms = c.take_argument.new.terms }) c.add_atom.new.self h m (λ t g. c.in-Ok.ensures.taken number t a g) refl
-      (c.is_ended.ensures.0 c.if-not-is_ended.false) (λ leaf args k. c.add_atom.ensures.ok number leaf args k) c.add_atom.ensures.err
+    (c.is_ended.ensures.0 c.if-not-is_ended.false) (λ leaf args k. c.add_atom.ensures.ok number leaf args k) c.add_atom.ensures.err

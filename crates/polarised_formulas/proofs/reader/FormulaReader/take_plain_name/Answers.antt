@@ -9,4 +9,4 @@ returns-then-is_deep-clause-taken c = λ number logic parameters s a h m.
 pub returns-else-is_deep-clause-taken : goal.returns-else-is_deep-clause-taken
 returns-else-is_deep-clause-taken c = λ number logic parameters s a h m.
     takes-plain_name number logic parameters s c.args.text.now c.name_atom.result c.args.self.now c.name_atom.new.self c.name_atom.new.names h m (sym h.in_logic ∙ c.in-Lkf.is)
-      (λ e. let d = c.is_deep.ensures.1 e in let n = c.if-is_deep.false in cc) (λ id e. a id c.args.text.now e) c.name_atom.ensures.ok c.name_atom.ensures.err
+    (λ e. let d = c.is_deep.ensures.1 e in let n = c.if-is_deep.false in cc) (λ id e. a id c.args.text.now e) c.name_atom.ensures.ok c.name_atom.ensures.err
