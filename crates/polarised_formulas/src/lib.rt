@@ -24,7 +24,6 @@ pub use formula::Formula;
 pub use list::Formulas;
 pub use logic::{Logic, Polarity, Side};
 pub use node::Node;
-pub use read::read_formula;
 pub use plain::read::read_plain_formula;
 pub use plain::reader::{PlainReader, Progress};
 pub use print::{print_formula, print_problem};

@@ -88,9 +88,9 @@ enum Beginning {
     Letter,
 }
 
-/// A term or a formula in plain form that is read byte by byte. Each byte takes constant time; a name is looked up at its
-/// end, and the byte that ends the line takes time linear in it. Memory is linear in the line so far, and is kept for the
-/// lines that come later. Behind an error, or a line that has ended, nothing is said until the next line begins.
+/// A term or a formula in plain form that is read byte by byte. Each byte takes constant time, averaged over the line, but
+/// for the look-up of a name at its end; the byte that ends the line takes time linear in it. Memory is linear in the line
+/// so far. Behind an error, or a line that has ended, nothing is said of a byte until the next line begins.
 #[derive(Drop)]
 pub struct PlainReader {
     alloc: Global,

@@ -29,12 +29,20 @@ fn expect_refused(
     }
 }
 
-/// The piece many times.
-fn repeated(alloc: Global, piece: &[u8], count: usize) -> Result<Vec<u8>, OutOfMemory> {
+/// The piece many times between others.
+fn repeated(
+    alloc: Global,
+    front: &[u8],
+    piece: &[u8],
+    count: usize,
+    back: &[u8],
+) -> Result<Vec<u8>, OutOfMemory> {
     let mut text = Vec::new(alloc);
+    text.extend_from_slice(front)?;
     for _ in 0..count {
         text.extend_from_slice(piece)?;
     }
+    text.extend_from_slice(back)?;
     Ok(text)
 }
 
@@ -112,25 +120,32 @@ fn texts_that_are_cut_off_are_refused_at_their_end(rt: HostRuntime) {
 }
 
 #[test]
-fn limits_are_told_where_they_are_passed(rt: HostRuntime) -> Result<(), Fail> {
+fn names_have_255_letters(rt: HostRuntime) -> Result<(), Fail> {
     let alloc = rt.alloc();
-    let name = repeated(alloc, b"p", 256)?;
-    expect_accepted(&rt, alloc, Lkf, &name[..255]);
-    expect_refused(&rt, alloc, Lkf, name.as_slice(), Code::LongName, 255);
-    let mut arguments = Vec::from_array(alloc, *b"p(a")?;
-    arguments.extend_from_slice(repeated(alloc, b",a", 255)?.as_slice())?;
-    expect_refused(
-        &rt,
-        alloc,
-        Lkf,
-        arguments.as_slice(),
-        Code::ManyArguments,
-        511,
-    );
-    let mut deep = repeated(alloc, b"all ", 10_000)?;
-    deep.extend_from_slice(b"tt+")?;
-    expect_accepted(&rt, alloc, Ljf, &deep[4..]);
-    expect_refused(&rt, alloc, Ljf, deep.as_slice(), Code::TooDeep, 40_000);
+    let longest = repeated(alloc, b"", b"p", 255, b"")?;
+    expect_accepted(&rt, alloc, Lkf, longest.as_slice());
+    let longer = repeated(alloc, b"", b"p", 256, b"")?;
+    expect_refused(&rt, alloc, Lkf, longer.as_slice(), Code::LongName, 255);
+    Ok(())
+}
+
+#[test]
+fn names_have_255_arguments(rt: HostRuntime) -> Result<(), Fail> {
+    let alloc = rt.alloc();
+    let most = repeated(alloc, b"p(a", b",a", 254, b")")?;
+    expect_accepted(&rt, alloc, Lkf, most.as_slice());
+    let more = repeated(alloc, b"p(a", b",a", 255, b")")?;
+    expect_refused(&rt, alloc, Lkf, more.as_slice(), Code::ManyArguments, 511);
+    Ok(())
+}
+
+#[test]
+fn formulas_are_nested_10_000_deep(rt: HostRuntime) -> Result<(), Fail> {
+    let alloc = rt.alloc();
+    let deepest = repeated(alloc, b"", b"all ", 9_999, b"tt+")?;
+    expect_accepted(&rt, alloc, Ljf, deepest.as_slice());
+    let deeper = repeated(alloc, b"", b"all ", 10_000, b"tt+")?;
+    expect_refused(&rt, alloc, Ljf, deeper.as_slice(), Code::TooDeep, 40_000);
     Ok(())
 }
 
@@ -163,10 +178,9 @@ fn nodes_are_those_of_the_text(rt: HostRuntime) -> Result<(), Fail> {
 #[test]
 fn a_million_applications_are_read(rt: HostRuntime) -> Result<(), Fail> {
     let alloc = rt.alloc();
-    let mut text = Vec::from_array(alloc, *b"p(")?;
-    text.extend_from_slice(repeated(alloc, b"f(", 1_000_000)?.as_slice())?;
-    text.extend_from_slice(b"a")?;
-    text.extend_from_slice(repeated(alloc, b")", 1_000_001)?.as_slice())?;
+    let mut text = repeated(alloc, b"p(", b"f(", 1_000_000, b"a")?;
+    let ends = repeated(alloc, b"", b")", 1_000_001, b"")?;
+    text.extend_from_slice(ends.as_slice())?;
     expect_accepted(&rt, alloc, Lkf, text.as_slice());
     Ok(())
 }
