@@ -45,7 +45,7 @@ pub mod Renaming
 pub mod Texts
 pub mod LineEnds
 pub mod Proper
-pub mod Laws
+pub mod PlainLaws
 pub mod Fitting
 pub mod Keeping
 pub mod Outcomes

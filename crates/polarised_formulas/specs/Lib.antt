@@ -25,3 +25,4 @@ pub mod PlainLimits
 pub mod PlainPrinting
 pub mod PlainStanding
 pub mod PlainTaking
+pub mod OneAnswer

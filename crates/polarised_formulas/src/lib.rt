@@ -6,6 +6,7 @@ pub mod builder;
 pub mod connective;
 pub mod dual;
 pub mod formula;
+pub mod laws;
 pub mod list;
 pub mod logic;
 pub mod node;

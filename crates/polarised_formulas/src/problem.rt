@@ -7,6 +7,7 @@ ghost use Rattle.fpc_terms.specs.Holding.{IsNamed};
 ghost use Rattle.polarised_formulas.specs.Formula.{IsClosed, IsLkf};
 ghost use Rattle.polarised_formulas.specs.declared.logic.Logic.TheVariants.{Lkf};
 ghost use Rattle.polarised_formulas.specs.Machine.{ProblemState, start, limited_problem, logic_of};
+ghost use Rattle.polarised_formulas.specs.Printing.{AllNamesBelow};
 ghost use Rattle.polarised_formulas.specs.ReadProblem.{IsTooLarge, ProblemIsRead, IsProblemRefusal, HoldsProblem, TakesProblem, is_dot, GoalOf, IsUnfinished};
 
 #[cfg(test)]
@@ -40,6 +41,7 @@ pub fn read_problem(alloc: Global, names: &mut Names, bytes: &[u8]) -> Result<Pr
     ensures closed { IfOk result (λ p. IsClosed p.goal) }
     ensures lkf { IfOk result (λ p. IsLkf p.goal) }
     ensures read { IfOk result (λ p. ProblemIsRead (items_of bytes.now) names.new p.logic p.goal) }
+    ensures named { IfOk result (λ p. AllNamesBelow (length names.new) p.goal) }
     ensures large { 16777216 < length bytes.now → IsTooLarge result }
     ensures refused { length bytes.now ≤ 16777216 → IfErr result (IsProblemRefusal (items_of bytes.now) (length bytes.now)) }
     ensures names { Grows names.old names.new }

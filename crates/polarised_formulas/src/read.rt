@@ -7,6 +7,7 @@ ghost use Rattle.fpc_terms.specs.Holding.{IsNamed};
 ghost use Rattle.polarised_formulas.specs.Machine.{FormulaState, limited};
 ghost use Rattle.fpc_terms.specs.Machine.{is_open};
 ghost use Rattle.polarised_formulas.specs.Holding.{Holds};
+ghost use Rattle.polarised_formulas.specs.Printing.{AllNamesBelow};
 ghost use Rattle.polarised_formulas.specs.ReadFormula.{FormulaIsRead, IsFormulaRefusal, HoldsFor, TakesFor, Leads, ends_before};
 
 use crate::formula::Formula;
@@ -33,11 +34,13 @@ pub fn read_formula(
     ensures ok { IfOk result (FormulaIsRead logic parameters.now (items_left tokens.old) (items_left tokens.new) names.new) }
     ensures err { IfErr result (IsFormulaRefusal logic parameters.now (items_left tokens.old) (length (source_of tokens.old))) }
     ensures source { source_of tokens.new ≡ source_of tokens.old }
+    ensures named { IfOk result (AllNamesBelow (length names.new)) }
     ensures names { Grows names.old names.new }
 {
     match read_whole(alloc, names, logic, *tokens, parameters) {
         Ok((reader, left)) => {
             *tokens = left;
+            names.distinct();
             match reader.finish() {
                 Ok(Some(formula)) => Ok(formula),
                 // A whole formula was read, so only memory can be missing.

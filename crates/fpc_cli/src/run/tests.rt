@@ -118,9 +118,16 @@ fn certificates_are_judged_line_by_line(rt: HostRuntime) -> Result<(), Fail> {
 #[test]
 fn problems_are_refused_before_certificates(rt: HostRuntime) -> Result<(), Fail> {
     let alloc = rt.alloc();
-    for problem in ["", "lkf (p |+ ~p).\n", "lkf  (p |- ~p).\n", "lkf (p |- lon"] {
+    for (problem, text) in [
+        ("", "refused problem 2 Unexpected at 0\n"),
+        ("lkf (p |- lon", "refused problem 2 Unexpected at 13\n"),
+        ("lkf (p & q).", "refused problem 1 BadByte at 7\n"),
+        ("ljf +p.", "refused problem 0 NotBuilt at 0\n"),
+        ("% all\nlkf (p |+\t~p) .\n", "read fault\n"),
+    ] {
         let got = verified(alloc, problem.as_bytes(), None, None, 65_536, None)?;
-        expect(&rt, got, 3, "refused problem 0 NotBuilt at 0\n");
+        let status = if text == "read fault\n" { 5 } else { 3 };
+        expect(&rt, got, status, text);
     }
     let large = vec![in alloc; b'p'; 16_777_217]?;
     let got = verified(alloc, large.as_slice(), None, None, 65_536, None)?;

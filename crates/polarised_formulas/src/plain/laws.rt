@@ -7,7 +7,7 @@ ghost use Rattle.polarised_formulas.specs.PlainTexts.{PlainFormulaIsNamed, Plain
 
 /// Laws of lines: the reading goes on exactly where the bytes begin a line, and what is whole is what the line holds. A line ends with the byte 10, which stands
 /// nowhere inside one, and holds one term or formula. What is a line hangs on no numbering.
-#[tactic(auto, using(crate::proofs::Laws::laws))]
+#[tactic(auto, using(crate::proofs::PlainLaws::laws))]
 pub fn laws_of_lines()
     ensures begins { GoingBegins }
     ensures whole_term { TermIsWhole }
@@ -20,7 +20,7 @@ pub fn laws_of_lines()
 
 /// Laws of texts: the reading stands inside a line exactly where the bytes begin a text, and with a table of different names a term or formula is read exactly
 /// from its text.
-#[tactic(auto, using(crate::proofs::Laws::laws))]
+#[tactic(auto, using(crate::proofs::PlainLaws::laws))]
 pub fn laws_of_texts()
     ensures begins { OnBegins }
     ensures term { TermIsRead }
@@ -30,7 +30,7 @@ pub fn laws_of_texts()
 
 /// Laws of outcomes: with a table of different names a whole text is read exactly where it is the text of a term or formula that keeps the limits, and it is
 /// refused exactly at the first byte that goes on to begin no text or goes past a limit, or at the end of bytes that are no text.
-#[tactic(auto, using(crate::proofs::Laws::laws))]
+#[tactic(auto, using(crate::proofs::PlainLaws::laws))]
 pub fn laws_of_outcomes()
     ensures term { TermOutcome }
     ensures formula { FormulaOutcome }
@@ -38,7 +38,7 @@ pub fn laws_of_outcomes()
 {}
 
 /// Laws of what is read: it has no variable and no free bound index, its names stand in the table, a formula is of its logic, and both keep their texts as the table of names grows.
-#[tactic(auto, using(crate::proofs::Laws::laws))]
+#[tactic(auto, using(crate::proofs::PlainLaws::laws))]
 pub fn laws_of_what_is_read()
     ensures term { PlainTermIsProper }
     ensures formula { PlainFormulaIsProper }
@@ -50,7 +50,7 @@ pub fn laws_of_what_is_read()
 
 /// Laws of what is printed: a term or formula is read back from its text exactly where it is of the logic, has no variable and no free bound index, small
 /// eigenvariables, only names of the table, and keeps the limits.
-#[tactic(auto, using(crate::proofs::Laws::laws))]
+#[tactic(auto, using(crate::proofs::PlainLaws::laws))]
 pub fn laws_of_what_is_printed()
     ensures plain_term { TermIsPlain }
     ensures plain_formula { FormulaIsPlain }
