@@ -1,0 +1,10 @@
+use Rattle.explicit_form.proofs.Taking.{takes-heading, takes-line}
+use Rattle.explicit_form.proofs.step_reader.StepReader.next_byte.Goals as goal
+
+pub returns-in-Heading-clause-taken : goal.returns-in-Heading-clause-taken
+returns-in-Heading-clause-taken c = λ number logic st agrees h none.
+    takes-heading number logic c.args.b c.args.self.now c.heading_byte.new.self c.heading_byte.result c.in-Heading.is (c.heading_byte.ensures.taken logic) st h none
+
+pub returns-in-Lines-clause-taken : goal.returns-in-Lines-clause-taken
+returns-in-Lines-clause-taken c = λ number logic st agrees h none.
+    takes-line number logic c.args.b c.args.self.now c.line_byte.new.self c.line_byte.result c.in-Lines.is (λ done l. c.line_byte.ensures.taken number logic done l agrees) st h none

@@ -1,0 +1,9 @@
+pub mod StepText
+pub mod StepReading
+pub mod StepLaws
+pub mod StepLimits
+pub mod StepTables
+pub mod Sizes
+pub mod StepFeeding
+pub mod LineStanding
+pub mod Feeding
