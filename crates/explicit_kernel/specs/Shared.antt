@@ -40,10 +40,10 @@ abbrev pub AreBelow : ℕ → ℕ → List Open → Type 0
 AreBelow n k [] = Unit {0}
 AreBelow n k (o ∷ os) = (o.stored ≤ k) × (o.floor ≤ n) × IsBelow n o.task × AreBelow o.floor o.stored os
 
--- the sequents need no more than the floor of the cells, and cells go down
-pub record IsReady (floor : ℕ) (x : Shared) : Type 0 where
-  pub below : AreBelow floor (length x.stored.items) x.open
-  pub floor : floor ≤ length x.cells
+-- the sequents need no more than the lowest n cells and the stored formulas, and the cells go down
+pub record IsReady (n : ℕ) (x : Shared) : Type 0 where
+  pub below : AreBelow n (length x.stored.items) x.sequents
+  pub floor : n ≤ length x.cells
   pub down : GoDown x.cells
 
 abbrev pub IsSound : Shared → Type 0
@@ -51,7 +51,7 @@ IsSound x = IsReady (length x.cells) x
 
 -- the sequents that are shared
 abbrev pub pending_of : Shared → List Levelled
-pending_of x = sequents_of x.stored.items x.cells x.open
+pending_of x = sequents_of x.stored.items x.cells x.sequents
 
 -- what an effect makes of a sequent with its level
 abbrev pub premises_at : Effect → Levelled → List Levelled

@@ -52,7 +52,16 @@ pub(crate) struct Open {
 pub(crate) struct Shared {
     pub(crate) stored: Vec<Formula>,
     pub(crate) cells: Stack<Cell>,
-    pub(crate) open: Stack<Open>,
+    pub(crate) sequents: Stack<Open>,
+}
+
+/// The larger of two numbers.
+fn larger(a: usize, b: usize) -> usize
+    ensures first { a ≤ result }
+    ensures second { b ≤ result }
+    ensures one { (n : ℕ) → a ≤ n → b ≤ n → result ≤ n }
+{
+    a.max(b)
 }
 
 impl Shared {
@@ -61,12 +70,12 @@ impl Shared {
         ensures ready { IsReady 0 result }
         ensures stored { result.stored.items ≡ [] }
         ensures cells { result.cells ≡ [] }
-        ensures open { result.open ≡ [] }
+        ensures sequents { result.sequents ≡ [] }
     {
         Shared {
             stored: Vec::new(alloc),
             cells: Stack::new(alloc),
-            open: Stack::new(alloc),
+            sequents: Stack::new(alloc),
         }
     }
 
@@ -84,12 +93,13 @@ impl Shared {
     pub(crate) fn is_empty(&self) -> bool
         ensures { IsTrue result ↔ (pending_of self.now ≡ []) }
     {
-        self.open.top().is_none()
+        self.sequents.top().is_none()
     }
 
     /// Puts a formula before the worked list at a place, and gives the place of the longer list.
     fn put_before(&mut self, formula: Formula, next: usize) -> Result<usize, OutOfMemory>
-        requires { next ≤ length self.old.cells }
+        requires sound { IsSound self.old }
+        requires next { next ≤ length self.old.cells }
         ensures grows { Grows self.old self.new }
         ensures place { IfOk result (λ n. n ≤ length self.new.cells) }
         ensures chain { IfOk result (λ n. chain self.new.cells n ≡ formula ∷ chain self.old.cells next) }
@@ -107,8 +117,8 @@ impl Shared {
         ensures cells { self.new.cells ≡ self.old.cells }
         ensures pending { OnOk result (pending_of self.new ≡ (level, sequent_of self.old.stored.items self.old.cells task) ∷ pending_of self.old) }
     {
-        let stored = self.stored.len();
-        self.open.push(Open {
+        let stored = self.stored.as_slice().len();
+        self.sequents.push(Open {
             level,
             stored,
             floor,
@@ -150,7 +160,7 @@ impl Shared {
 
     /// Drops what neither the other sequents nor the worked list at a place need.
     fn cut_back(&mut self, stored: usize, floor: usize, rest: usize)
-        requires below { AreBelow floor stored self.old.open }
+        requires below { AreBelow floor stored self.old.sequents }
         requires stored { stored ≤ length self.old.stored.items }
         requires floor { floor ≤ length self.old.cells }
         requires rest { rest ≤ length self.old.cells }
@@ -162,7 +172,7 @@ impl Shared {
         ensures pending { pending_of self.new ≡ pending_of self.old }
     {
         self.stored.truncate(stored);
-        self.cells.keep(if rest <= floor { floor } else { rest });
+        self.cells.keep(larger(floor, rest));
     }
 
     /// The place of the worked list behind the first formula; 0 where there is none.
@@ -232,32 +242,32 @@ impl Shared {
         ensures sound { IsSound self.new }
         ensures pending { OnOk result (pending_of self.new ≡ played effect (pending_of self.old)) }
     {
-        match self.open.pop() {
+        match self.sequents.pop() {
             None => Ok(()),
-            Some(open) => {
-                let rest = self.rest_of(&open.task);
-                self.cut_back(open.stored, open.floor, rest);
-                self.open_premises(open.level, open.floor, rest, effect)
+            Some(sequent) => {
+                let rest = self.rest_of(&sequent.task);
+                self.cut_back(sequent.stored, sequent.floor, rest);
+                self.open_premises(sequent.level, sequent.floor, rest, effect)
             }
         }
     }
 
     /// What a step does to one of the sequents.
-    fn effect_at(&self, alloc: Global, open: &Open, step: &Step) -> Result<Effect, StepRefusal>
-        requires stored { open.now.stored ≤ length self.now.stored.items }
-        requires task { IsBelow (length self.now.cells) open.now.task }
+    fn effect_at(&self, alloc: Global, sequent: &Open, step: &Step) -> Result<Effect, StepRefusal>
+        requires stored { sequent.now.stored ≤ length self.now.stored.items }
+        requires task { IsBelow (length self.now.cells) sequent.now.task }
         requires down { GoDown self.now.cells }
-        ensures { TellsAt step.now result (open.now.level, sequent_of (take open.now.stored self.now.stored.items) self.now.cells open.now.task) }
+        ensures { TellsAt step.now result (sequent.now.level, sequent_of (take sequent.now.stored self.now.stored.items) self.now.cells sequent.now.task) }
     {
-        let (stored, _) = self.stored.as_slice().split_at(open.stored);
-        match &open.task {
-            Task::Focus(focus) => on_focus(alloc, open.level, stored, focus, step),
+        let (stored, _) = self.stored.as_slice().split_at(sequent.stored);
+        match &sequent.task {
+            Task::Focus(focus) => on_focus(alloc, sequent.level, stored, focus, step),
             Task::Work(place) => {
                 if *place == 0 {
-                    on_nothing(alloc, open.level, stored, step)
+                    on_nothing(alloc, sequent.level, stored, step)
                 } else {
                     let first = &self.cells.at(*place - 1).formula;
-                    on_first(alloc, open.level, first, step)
+                    on_first(alloc, sequent.level, first, step)
                 }
             }
         }
@@ -268,9 +278,9 @@ impl Shared {
         requires { IsSound self.now }
         ensures { Names step.now result (pending_of self.now) }
     {
-        match self.open.top() {
+        match self.sequents.top() {
             None => Err(StepRefusal::DoesNotFit),
-            Some(open) => self.effect_at(alloc, open, step),
+            Some(sequent) => self.effect_at(alloc, sequent, step),
         }
     }
 }

@@ -18,8 +18,8 @@ mod tests;
 
 use crate::sequent::Sequent;
 use choice::{cut, decide};
-use fpc_base::outside::OutOfMemory;
 use effect::Effect;
+use fpc_base::outside::OutOfMemory;
 use negative::{and_negative, every, or_negative, store};
 use outcome::{Premises, StepRefusal, only};
 use polarised_formulas::formula::Formula;

@@ -30,11 +30,7 @@ pub(crate) fn decide(level: u64, stored: &[Formula], k: u64) -> Result<Effect, S
 
 /// The step `cut B`: a formula of LKF that is in scope at the level is worked on in the first premise, and its dual in the second one.
 #[tactic(auto, using(crate::proofs::StepFacts::cut_facts))]
-pub(crate) fn cut(
-    alloc: Global,
-    level: u64,
-    formula: &Formula,
-) -> Result<Effect, StepRefusal>
+pub(crate) fn cut(alloc: Global, level: u64, formula: &Formula) -> Result<Effect, StepRefusal>
     ensures { (s : List Formula) → TellsTo (Step.Cut formula.now) result level s [] (chosen (Step.Cut formula.now) level s) }
 {
     if !may_be_cut(alloc, formula, level)? {

@@ -3,7 +3,9 @@ ghost use Rattle.std.specs.Prelude.{◌≡◌, ◌<◌, ◌-◌, ◌^◌, Some};
 ghost use Rattle.lkf_rules.specs.Effect.{premises_by};
 ghost use Rattle.lkf_rules.specs.Values.{Gives};
 
-use crate::rules::outcome::{Premises, StepRefusal, one_down, one_up, two_down, two_up, with_first};
+use crate::rules::outcome::{
+    Premises, StepRefusal, one_down, one_up, two_down, two_up, with_first,
+};
 use polarised_formulas::formula::Formula;
 use polarised_formulas::list::Formulas;
 use std::alloc::Global;

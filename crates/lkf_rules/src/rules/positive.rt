@@ -67,10 +67,7 @@ pub(crate) fn some(
 }
 
 /// The step `release`: a negative formula leaves the focus and is worked on.
-pub(crate) fn release(
-    level: u64,
-    focus: &Formula,
-) -> Result<Effect, StepRefusal>
+pub(crate) fn release(level: u64, focus: &Formula) -> Result<Effect, StepRefusal>
     ensures { (s : List Formula) → Tells result level s [] (focused Step.Release level s focus.now) }
 {
     match polarity(focus) {
@@ -89,7 +86,12 @@ fn stored_at(stored: &[Formula], k: usize) -> &Formula
 
 /// The step `init k`: a positive literal under focus closes with its dual at place k of the stored formulas.
 #[tactic(auto, using(crate::proofs::InitialFacts::initial_facts))]
-pub(crate) fn initial(level: u64, stored: &[Formula], focus: &Formula, k: u64) -> Result<Effect, StepRefusal>
+pub(crate) fn initial(
+    level: u64,
+    stored: &[Formula],
+    focus: &Formula,
+    k: u64,
+) -> Result<Effect, StepRefusal>
     requires { (name n : ℕ) × (root_node focus.now ≡ Node.Atom true name n) }
     ensures { Tells result level stored.now [] (closed_with focus.now (slice_get stored.now k)) }
 {
