@@ -1,22 +1,21 @@
 -- What is told of a step at the sequents still to be derived.
-use Rattle.std.proofs.Common.{◌≡◌, ◌≢◌, ◌↔◌, ℕ, suc, List, [], ◌∷◌, ◌++◌, take, Option, Some, None, Result, Ok, Err, refl, sym, ap, subst, ◌∙◌, OnOk}
+use Rattle.std.proofs.Common.{◌≡◌, ℕ, suc, List, [], ◌∷◌, take, Result, Ok, Err, sym, subst}
 use Rattle.polarised_formulas.specs.Formula.{Formula}
 use Rattle.polarised_formulas.specs.declared.step.Step.{Step}
 use Rattle.lkf_rules.specs.declared.rules.effect.Effect.{Effect}
 use Rattle.lkf_rules.specs.declared.rules.outcome.StepRefusal.{StepRefusal}
 use Rattle.lkf_rules.specs.declared.rules.outcome.StepRefusal.TheVariants.{DoesNotFit, OutOfMemory}
-use Rattle.lkf_rules.specs.Sequent.{Sequent, up, down, Levelled}
-use Rattle.lkf_rules.specs.Premises.{premises_of, worked, chosen}
+use Rattle.lkf_rules.specs.Sequent.{Sequent, up, Levelled}
+use Rattle.lkf_rules.specs.Premises.{worked, chosen}
 use Rattle.lkf_rules.specs.Effect.{Tells, TellsTo}
-use Rattle.lkf_rules.specs.Play.{PlaysOne}
 use Rattle.lkf_rules.proofs.Play.{PlaysOne-premises, PlaysOne-stuck}
 use Rattle.explicit_kernel.specs.declared.shared.Cell.{Cell}
 use Rattle.explicit_kernel.specs.declared.shared.Task.{Task}
-use Rattle.explicit_kernel.specs.declared.shared.Task.TheVariants.{Work, Focus}
+use Rattle.explicit_kernel.specs.declared.shared.Task.TheVariants.{Work}
 use Rattle.explicit_kernel.specs.declared.shared.Open.{Open}
 use Rattle.explicit_kernel.specs.declared.shared.Shared.{Shared}
 use Rattle.explicit_kernel.specs.Stack.{StandsAt}
-use Rattle.explicit_kernel.specs.Shared.{chain, GoDown, sequent_of, sequents_of, pending_of, premises_at, played}
+use Rattle.explicit_kernel.specs.Shared.{chain, GoDown, sequent_of, sequents_of, pending_of, premises_at}
 use Rattle.explicit_kernel.specs.Naming.{TellsAt, Names}
 use Rattle.explicit_kernel.proofs.Sharing.{chain-end, chain-stands}
 

@@ -1,8 +1,7 @@
 -- Sequents that share their formulas: what is put on top or cut back leaves those behind as they were.
-use Rattle.std.proofs.Common.{◌≡◌, ℕ, suc, ◌+◌, ◌≤◌, ◌<◌, nat_eq, List, [], ◌∷◌, ◌++◌, length, take, drop, Option, Some, None, refl, sym, ap, subst, ◌∙◌, arith, if◌then◌else◌, true, false, Result, Ok, Err, OnOk, OnErr}
+use Rattle.std.proofs.Common.{◌≡◌, ℕ, suc, ◌≤◌, List, [], ◌∷◌, ◌++◌, length, take, refl, sym, ap, subst, ◌∙◌, arith, Result, Ok, Err, OnOk, OnErr}
 use Rattle.std.proofs.lemmas.List.{take-append-le, take-take, length-take, length-append}
 use Rattle.polarised_formulas.specs.Formula.{Formula}
-use Rattle.lkf_rules.specs.Sequent.{Sequent, up, down, Levelled}
 use Rattle.lkf_rules.specs.declared.rules.effect.Effect.{Effect}
 use Rattle.lkf_rules.specs.Effect.{premises_by}
 use Rattle.explicit_kernel.specs.declared.shared.Cell.{Cell}
@@ -11,7 +10,7 @@ use Rattle.explicit_kernel.specs.declared.shared.Task.TheVariants.{Work, Focus}
 use Rattle.explicit_kernel.specs.declared.shared.Open.{Open}
 use Rattle.explicit_kernel.specs.declared.shared.Shared.{Shared}
 use Rattle.explicit_kernel.specs.Stack.{StandsAt, IsLowest}
-use Rattle.explicit_kernel.specs.Shared.{chain, GoDown, sequent_of, sequents_of, IsBelow, AreBelow, IsReady, IsSound, Grows, pending_of, premises_at, played}
+use Rattle.explicit_kernel.specs.Shared.{chain, GoDown, sequent_of, sequents_of, IsBelow, AreBelow, IsReady, IsSound, Grows, premises_at}
 
 -- a cell on top is not in a list that begins below it
 pub chain-under : (c : Cell) (cs : List Cell) (n : ℕ) → n ≤ length cs → chain (c ∷ cs) n ≡ chain cs n

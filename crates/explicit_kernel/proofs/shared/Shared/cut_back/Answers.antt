@@ -1,4 +1,3 @@
-use Rattle.std.proofs.Common.{arith}
 use Rattle.explicit_kernel.proofs.Sharing.{cut-ready, cut-chain, cut-same}
 use Rattle.explicit_kernel.proofs.shared.Shared.cut_back.Goals as goal
 
