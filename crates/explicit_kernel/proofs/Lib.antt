@@ -1,3 +1,5 @@
-pub mod Fitting
+pub mod StackFacts
+pub mod Sharing
+pub mod NamingFacts
 pub mod Advancing
 pub mod Judging

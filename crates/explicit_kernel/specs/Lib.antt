@@ -1,3 +1,6 @@
+pub mod Stack
+pub mod Shared
+pub mod Naming
 pub mod Pending
 pub mod Progress
 pub mod Check

@@ -4,6 +4,7 @@
 mod lines;
 mod pending;
 mod play;
+mod shared;
 mod stack;
 pub mod verify;
 

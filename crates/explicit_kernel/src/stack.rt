@@ -1,5 +1,6 @@
 //! Stacks, seen from their top.
-ghost use Rattle.std.specs.Prelude.{◌≡◌, ◌↔◌, [], ◌∷◌, List, drop, OnOk, IfSome, IfNone, IsTrue};
+ghost use Rattle.std.specs.Prelude.{◌≡◌, ◌↔◌, ◌<◌, ◌≤◌, [], ◌∷◌, List, length, OnOk, OnErr, IfSome, IfNone, IsTrue};
+ghost use Rattle.explicit_kernel.specs.Stack.{StandsAt, IsLowest};
 
 use fpc_base::outside::OutOfMemory;
 use std::alloc::Global;
@@ -29,7 +30,8 @@ impl<T: Drop> Stack<T> {
     }
 
     pub(crate) fn push(&mut self, item: T) -> Result<(), OutOfMemory>
-        ensures { OnOk result (self.new ≡ item ∷ self.old) }
+        ensures ok { OnOk result (self.new ≡ item ∷ self.old) }
+        ensures err { OnErr result (self.new ≡ self.old) }
     {
         self.items.push(item)?;
         Ok(())
@@ -43,11 +45,27 @@ impl<T: Drop> Stack<T> {
         self.items.pop()
     }
 
-    /// Takes the topmost item away, if there is one.
-    pub(crate) fn drop_top(&mut self)
-        ensures { self.new ≡ drop 1 self.old }
+    /// How many items there are.
+    pub(crate) fn len(&self) -> usize
+        ensures { result ≡ length self.now }
     {
-        let _ = self.pop();
+        self.items.len()
+    }
+
+    /// The item that has so many below it.
+    pub(crate) fn at(&self, below: usize) -> &T
+        requires { below < length self.now }
+        ensures { StandsAt self.now below result.now }
+    {
+        &self.items[below]
+    }
+
+    /// Takes away what stands above the lowest items, as many as said.
+    pub(crate) fn keep(&mut self, lowest: usize)
+        requires { lowest ≤ length self.old }
+        ensures { IsLowest self.old lowest self.new }
+    {
+        self.items.truncate(lowest);
     }
 
     /// The topmost item.

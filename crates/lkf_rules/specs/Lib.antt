@@ -8,3 +8,4 @@ pub mod Certificate
 pub mod Play
 pub mod Laws
 pub mod Values
+pub mod Effect

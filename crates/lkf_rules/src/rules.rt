@@ -1,11 +1,14 @@
 //! The rules of LKF: the premises that a step names at a sequent.
-ghost use Rattle.std.specs.Prelude.{◌≡◌, ◌≢◌, ◌↔◌, List, ◌<◌, ◌-◌, ◌^◌, Some, None, IfOk, Err};
+ghost use Rattle.std.specs.Prelude.{◌≡◌, ◌≢◌, ◌↔◌, List, [], ◌<◌, ◌-◌, ◌^◌, Some, None, IfOk, Err};
 ghost use Rattle.lkf_rules.specs.Sequent.{root_of, Levelled, IsInScope};
-ghost use Rattle.lkf_rules.specs.Premises.{premises_of};
+ghost use Rattle.polarised_formulas.specs.Formula.{Formula};
+ghost use Rattle.lkf_rules.specs.Premises.{premises_of, worked, chosen, focused};
+ghost use Rattle.lkf_rules.specs.Effect.{Tells, TellsTo};
 ghost use Rattle.lkf_rules.specs.Instance.{IsInstance};
 ghost use Rattle.lkf_rules.specs.Values.{levelled, premise_list, Answers, MayRunOut};
 
 mod choice;
+pub mod effect;
 mod negative;
 pub mod outcome;
 mod positive;
@@ -15,8 +18,9 @@ mod tests;
 
 use crate::sequent::Sequent;
 use choice::{cut, decide};
+use effect::Effect;
 use fpc_base::outside::OutOfMemory;
-use negative::{and_negative, every, false_negative, or_negative, store};
+use negative::{and_negative, every, or_negative, store};
 use outcome::{Premises, StepRefusal, only};
 use polarised_formulas::formula::Formula;
 use polarised_formulas::list::Formulas;
@@ -38,7 +42,69 @@ pub fn root(alloc: Global, goal: &Formula) -> Result<Sequent, OutOfMemory>
     })
 }
 
-/// The table of the rules, each line with the step and the outermost node that it asks for.
+/// The rules of the negative phase, each with the step and the outermost node of the first worked formula that it asks for. Time and memory are
+/// linear in the formula's size.
+#[tactic(auto, using(crate::proofs::StepFacts::answer_facts))]
+pub fn on_first(
+    alloc: Global,
+    level: u64,
+    first: &Formula,
+    step: &Step,
+) -> Result<Effect, StepRefusal>
+    ensures { (s g : List Formula) → Tells result level s g (worked step.now level s first.now g) }
+{
+    match (step, outermost(first)) {
+        (Step::TrueN, Node::True(Negative)) => Ok(Effect::Close),
+        (Step::FalseN, Node::False(Negative)) => Ok(Effect::Pass),
+        (Step::OrN, Node::Or(Negative)) => or_negative(alloc, level, first),
+        (Step::AndN, Node::And(Negative)) => and_negative(alloc, level, first),
+        (Step::Every, Node::ForAll) => every(alloc, level, first),
+        (Step::Store, _) => store(level, first),
+        _ => Err(StepRefusal::DoesNotFit),
+    }
+}
+
+/// The rules at a sequent with nothing left to work on. Time and memory are linear in the size of the formula that the step chooses.
+#[tactic(auto, using(crate::proofs::StepFacts::answer_facts))]
+pub fn on_nothing(
+    alloc: Global,
+    level: u64,
+    stored: &[Formula],
+    step: &Step,
+) -> Result<Effect, StepRefusal>
+    ensures { TellsTo step.now result level stored.now [] (chosen step.now level stored.now) }
+{
+    match step {
+        Step::Decide(k) => decide(level, stored, *k),
+        Step::Cut(b) => cut(alloc, level, b),
+        _ => Err(StepRefusal::DoesNotFit),
+    }
+}
+
+/// The rules of the positive phase, each with the step and the outermost node of the formula under focus that it asks for. Time and memory are linear in
+/// the sizes of the formula and of the step's term.
+#[tactic(auto, using(crate::proofs::StepFacts::answer_facts))]
+pub fn on_focus(
+    alloc: Global,
+    level: u64,
+    stored: &[Formula],
+    focus: &Formula,
+    step: &Step,
+) -> Result<Effect, StepRefusal>
+    ensures { Tells result level stored.now [] (focused step.now level stored.now focus.now) }
+{
+    match (step, outermost(focus)) {
+        (Step::TrueP, Node::True(Positive)) => Ok(Effect::Close),
+        (Step::AndP, Node::And(Positive)) => and_positive(alloc, level, focus),
+        (Step::OrP(side), Node::Or(Positive)) => or_positive(alloc, level, focus, *side),
+        (Step::Exists(t), Node::Exists) => some(alloc, level, focus, t),
+        (Step::Release, _) => release(level, focus),
+        (Step::Init(k), Node::Atom { positive: true, .. }) => initial(level, stored, focus, *k),
+        _ => Err(StepRefusal::DoesNotFit),
+    }
+}
+
+/// What a step comes to at a sequent.
 #[tactic(auto, using(crate::proofs::StepFacts::answer_facts))]
 fn answer_to(alloc: Global, sequent: &Sequent, step: &Step) -> Result<Premises, StepRefusal>
     requires level { (levelled sequent.now).0 < 2 ^ 64 - 1 }
@@ -46,37 +112,26 @@ fn answer_to(alloc: Global, sequent: &Sequent, step: &Step) -> Result<Premises, 
 {
     match sequent {
         Sequent::Up {
-            level: n,
-            stored: s,
+            level,
+            stored,
             work,
         } => match work.items() {
-            [f, g @ ..] => match (step, outermost(f)) {
-                (Step::TrueN, Node::True(Negative)) => Ok(Premises::None),
-                (Step::FalseN, Node::False(Negative)) => false_negative(alloc, *n, s, g),
-                (Step::OrN, Node::Or(Negative)) => or_negative(alloc, *n, s, f, g),
-                (Step::AndN, Node::And(Negative)) => and_negative(alloc, *n, s, f, g),
-                (Step::Every, Node::ForAll) => every(alloc, *n, s, f, g),
-                (Step::Store, _) => store(alloc, *n, s, f, g),
-                _ => Err(StepRefusal::DoesNotFit),
+            [first, rest @ ..] => match on_first(alloc, *level, first, step) {
+                Ok(effect) => effect.premises(alloc, *level, stored, rest),
+                Err(refusal) => Err(refusal),
             },
-            [] => match step {
-                Step::Decide(k) => decide(*n, s, *k),
-                Step::Cut(b) => cut(alloc, *n, s, b),
-                _ => Err(StepRefusal::DoesNotFit),
+            [] => match on_nothing(alloc, *level, stored.items(), step) {
+                Ok(effect) => effect.premises(alloc, *level, stored, &[]),
+                Err(refusal) => Err(refusal),
             },
         },
         Sequent::Down {
-            level: n,
-            stored: s,
-            focus: f,
-        } => match (step, outermost(f)) {
-            (Step::TrueP, Node::True(Positive)) => Ok(Premises::None),
-            (Step::AndP, Node::And(Positive)) => and_positive(alloc, *n, s, f),
-            (Step::OrP(side), Node::Or(Positive)) => or_positive(alloc, *n, s, f, *side),
-            (Step::Exists(t), Node::Exists) => some(alloc, *n, s, f, t),
-            (Step::Release, _) => release(alloc, *n, s, f),
-            (Step::Init(k), Node::Atom { positive: true, .. }) => initial(s, f, *k),
-            _ => Err(StepRefusal::DoesNotFit),
+            level,
+            stored,
+            focus,
+        } => match on_focus(alloc, *level, stored.items(), focus, step) {
+            Ok(effect) => effect.premises(alloc, *level, stored, &[]),
+            Err(refusal) => Err(refusal),
         },
     }
 }
