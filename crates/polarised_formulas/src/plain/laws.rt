@@ -4,7 +4,6 @@ ghost use Rattle.polarised_formulas.specs.PlainLimits.{FormulaOutcome, PlainGrow
 ghost use Rattle.polarised_formulas.specs.PlainPrinting.{FormulaIsPlain, FormulaIsReadBack, TermIsPlain, TermIsReadBack};
 ghost use Rattle.polarised_formulas.specs.PlainTexts.{PlainFormulaIsNamed, PlainTermIsNamed, FormulaIsRead, LineEnds, LinesAreShared, OnBegins, TableHasNumbering, TermIsRead};
 
-
 /// Laws of lines: the reading goes on exactly where the bytes begin a line, and what is whole is what the line holds. A line ends with the byte 10, which stands
 /// nowhere inside one, and holds one term or formula. What is a line hangs on no numbering.
 #[tactic(auto, using(crate::proofs::PlainLaws::laws))]

@@ -10,11 +10,11 @@ ghost use Rattle.polarised_formulas.specs.PlainTaking.{IsTaken, IsEnded, IsAnswe
 #[cfg(test)]
 mod tests;
 
+use crate::formula::Formula;
+use crate::logic::Logic;
 use crate::plain::reader::{PlainReader, Progress};
 use fpc_base::refusal::{Code, ParseRefusal, Refusal, TokenRefusal};
 use fpc_terms::names::Names;
-use crate::formula::Formula;
-use crate::logic::Logic;
 use std::alloc::Global;
 
 /// How many bytes a text may have.

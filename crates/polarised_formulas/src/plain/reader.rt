@@ -16,6 +16,10 @@ ghost use Rattle.polarised_formulas.specs.PlainStanding.{Stands, IsOutside, IsLi
 mod tests;
 mod words;
 
+use crate::builder::FormulaBuilder;
+use crate::connective::{Binder, Joiner};
+use crate::formula::Formula;
+use crate::logic::Logic;
 use crate::plain::reader::words::{
     Word, begins_operator, begins_word, is_digit, is_keyword, is_name_byte, is_small_letter,
     operator_with, with_digit, word_with,
@@ -26,10 +30,6 @@ use fpc_terms::builder::TermBuilder;
 use fpc_terms::name::{NameId, is_name};
 use fpc_terms::names::Names;
 use fpc_terms::term::TermBuf;
-use crate::builder::FormulaBuilder;
-use crate::connective::{Binder, Joiner};
-use crate::formula::Formula;
-use crate::logic::Logic;
 use std::alloc::Global;
 use std::mem;
 

@@ -16,21 +16,24 @@ fn check(rt: &impl Abort, alloc: Global, text: &[u8], refused: Option<(Code, usi
     }
 }
 
-/// A text, a byte so many times, and another text.
-fn repeated(
+/// Checks a text, a byte so many times, and another text.
+fn check_repeated(
+    rt: &impl Abort,
     alloc: Global,
     front: &[u8],
     byte: u8,
     count: usize,
     back: &[u8],
-) -> Result<Vec<u8>, AllocError> {
+    refused: Option<(Code, usize)>,
+) -> Result<(), AllocError> {
     let mut text = Vec::new(alloc);
     text.extend_from_slice(front)?;
     for _ in 0..count {
         text.push(byte)?;
     }
     text.extend_from_slice(back)?;
-    Ok(text)
+    check(rt, alloc, text.as_slice(), refused);
+    Ok(())
 }
 
 #[test]
@@ -62,48 +65,46 @@ fn problems_are_read_or_refused(rt: HostRuntime) {
 
 #[test]
 fn limits_are_kept(rt: HostRuntime) -> Result<(), Fail> {
-    let alloc = rt.alloc();
-    let name = repeated(alloc, b"lkf ", b'a', 255, b".")?;
-    check(&rt, alloc, name.as_slice(), None);
-    let long = repeated(alloc, b"lkf ", b'a', 256, b".")?;
-    check(&rt, alloc, long.as_slice(), Some((Code::LongName, 4)));
-    let deep = repeated(alloc, b"lkf ", b'(', 10_001, b"")?;
-    check(&rt, alloc, deep.as_slice(), Some((Code::TooDeep, 10_004)));
-    let deepest = repeated(alloc, b"lkf ", b'(', 10_000, b"")?;
-    check(
-        &rt,
-        alloc,
-        deepest.as_slice(),
-        Some((Code::Unexpected, 10_004)),
-    );
-    let large = repeated(alloc, b"lkf p.", b' ', 16_777_211, b"")?;
-    check(
-        &rt,
-        alloc,
-        large.as_slice(),
-        Some((Code::TooLarge, 16_777_216)),
-    );
+    let table: [(&[u8], u8, usize, &[u8], Option<(Code, usize)>); 5] = [
+        (b"lkf ", b'a', 255, b".", None),
+        (b"lkf ", b'a', 256, b".", Some((Code::LongName, 4))),
+        (b"lkf ", b'(', 10_000, b"", Some((Code::Unexpected, 10_004))),
+        (b"lkf ", b'(', 10_001, b"", Some((Code::TooDeep, 10_004))),
+        (
+            b"lkf p.",
+            b' ',
+            16_777_211,
+            b"",
+            Some((Code::TooLarge, 16_777_216)),
+        ),
+    ];
+    for (front, byte, count, back, refused) in table {
+        check_repeated(&rt, rt.alloc(), front, byte, count, back, refused)?;
+    }
+    Ok(())
+}
+
+/// Checks an atom with so many arguments.
+fn check_arguments(
+    rt: &impl Abort,
+    alloc: Global,
+    count: usize,
+    refused: Option<(Code, usize)>,
+) -> Result<(), AllocError> {
+    let mut text = Vec::new(alloc);
+    text.extend_from_slice(b"lkf p(a")?;
+    for _ in 1..count {
+        text.extend_from_slice(b",a")?;
+    }
+    text.extend_from_slice(b").")?;
+    check(rt, alloc, text.as_slice(), refused);
     Ok(())
 }
 
 #[test]
 fn a_name_has_at_most_255_arguments(rt: HostRuntime) -> Result<(), Fail> {
-    let alloc = rt.alloc();
-    let mut text = Vec::from_array(alloc, *b"lkf p(a")?;
-    for _ in 0..254 {
-        text.extend_from_slice(b",a")?;
-    }
-    let fits = text.len();
-    text.extend_from_slice(b").")?;
-    check(&rt, alloc, text.as_slice(), None);
-    text.truncate(fits);
-    text.extend_from_slice(b",a).")?;
-    check(
-        &rt,
-        alloc,
-        text.as_slice(),
-        Some((Code::ManyArguments, 515)),
-    );
+    check_arguments(&rt, rt.alloc(), 255, None)?;
+    check_arguments(&rt, rt.alloc(), 256, Some((Code::ManyArguments, 515)))?;
     Ok(())
 }
 

@@ -1,10 +1,10 @@
 //! Texts in plain form: what they hold, and where they are refused.
 use super::*;
-use fpc_base::outside::OutOfMemory;
-use fpc_terms::cell::Cell;
 use crate::logic::Logic::{Ljf, Lkf};
 use crate::logic::Polarity;
 use crate::node::Node;
+use fpc_base::outside::OutOfMemory;
+use fpc_terms::cell::Cell;
 use std::process::Abort;
 use std::test::Fail;
 
