@@ -7,16 +7,16 @@ ghost use Rattle.polarised_formulas.specs.declared.step.Step.{Step};
 ghost use Rattle.explicit_form.specs.StepReading.{Line, in_word, at_place, in_place, in_plain, next, behind_word, placed_step, bare_step, in_line, use_of, with_term, with_formula};
 ghost use Rattle.explicit_form.specs.LineStanding.{Stands, IsNext, next_unnamed, plain_start, stepped};
 
-use crate::words::{begins_word, is_digit, with_digit, word_with};
 use crate::word::{Bare, Placed, Word, Written};
+use crate::words::{begins_word, is_digit, with_digit, word_with};
 use fpc_base::outside::OutOfMemory;
 use fpc_base::refusal::{Code, TokenRefusal};
 use fpc_terms::names::Names;
 use fpc_terms::term::TermBuf;
-use polarised_formulas::{PlainReader, Progress};
 use polarised_formulas::formula::Formula;
 use polarised_formulas::logic::Logic;
 use polarised_formulas::step::Step;
+use polarised_formulas::{PlainReader, Progress};
 use std::alloc::Global;
 
 /// What a byte did.

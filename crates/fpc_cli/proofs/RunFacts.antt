@@ -21,10 +21,10 @@ pub moved : (C D : List ℕ → Content) (b d n : ℕ) (p e : List ℕ) (goal : 
     → (SpellsGoal (C p) goal → HasFilesTo Explicit (verify p e) C → IsCaused (verify p e) C b n a) → SpellsGoal (D p) goal → HasFilesTo Explicit (verify p e) D → IsCaused (verify p e) D d n a
 moved C D b d n p e goal a same count h =
     subst (λ (x : ℕ). SpellsGoal (D p) goal → HasFilesTo Explicit (verify p e) D → IsCaused (verify p e) D x n a) count
-      (subst (λ (X : List ℕ → Content). SpellsGoal (X p) goal → HasFilesTo Explicit (verify p e) X → IsCaused (verify p e) X b n a) same h)
+    (subst (λ (X : List ℕ → Content). SpellsGoal (X p) goal → HasFilesTo Explicit (verify p e) X → IsCaused (verify p e) X b n a) same h)
 
 pub moved-problem : (C D : List ℕ → Content) (b d n : ℕ) (p e : List ℕ) (goal : Formula) (a : Answer) → C ≡ D → b ≡ d
     → (SpellsGoal (C p) goal → C p ≢ missing → IsCaused (verify p e) C b n a) → SpellsGoal (D p) goal → D p ≢ missing → IsCaused (verify p e) D d n a
 moved-problem C D b d n p e goal a same count h =
     subst (λ (x : ℕ). SpellsGoal (D p) goal → D p ≢ missing → IsCaused (verify p e) D x n a) count
-      (subst (λ (X : List ℕ → Content). SpellsGoal (X p) goal → X p ≢ missing → IsCaused (verify p e) X b n a) same h)
+    (subst (λ (X : List ℕ → Content). SpellsGoal (X p) goal → X p ≢ missing → IsCaused (verify p e) X b n a) same h)

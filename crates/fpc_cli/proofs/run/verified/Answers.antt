@@ -7,4 +7,4 @@ returns-clause-caused g c = c.in-Err.ensures.caused c.args.explicit.now
 pub returns-in-Ok-clause-caused : goal.returns-in-Ok-clause-caused
 returns-in-Ok-clause-caused g c =
     moved-problem _ _ _ _ _ c.args.problem.now c.args.explicit.now c.in-Ok.problem.goal _ c.problem_in.ensures.content c.in-Ok.ensures.count
-      (c.checked.ensures.caused c.args.problem.now) c.in-Ok.ensures.spelled c.in-Ok.ensures.there
+    (c.checked.ensures.caused c.args.problem.now) c.in-Ok.ensures.spelled c.in-Ok.ensures.there
