@@ -11,12 +11,13 @@ use Rattle.polarised_formulas.specs.declared.logic.Logic.{Logic}
 use Rattle.polarised_formulas.specs.declared.step.Step.{Step}
 use Rattle.polarised_formulas.proofs.Standing.{Agrees-grows}
 use Rattle.explicit_form.specs.StepReading.{State, heading, reading, ended, mistaken, stuck, start, go, run, steps_of, steps_onto}
-use Rattle.explicit_form.specs.StepLimits.{fault, read, refused, outcome_at_end, unless_refused, outcome}
+use Rattle.explicit_form.specs.StepLimits.{fault, read, refused, outcome_at_end, unless_refused, outcome, AreUntold}
 use Rattle.explicit_form.specs.declared.step_reader.Phase as phase
 use Rattle.explicit_form.specs.declared.step_reader.StepFault.{StepFault}
 use Rattle.explicit_form.specs.declared.step_reader.StepFault.TheVariants.{Refused, OutOfMemory}
 use Rattle.explicit_form.specs.declared.step_reader.StepReader.{StepReader}
-use Rattle.explicit_form.specs.Feeding.{IsAt, IsTaken, step_with, done_of, pushed, IsFree, HasTaken, IsLine, line_length, line_in, HasRead, IsFed}
+use Rattle.explicit_form.specs.Feeding.{IsAt, IsTaken, step_with, done_of, pushed, IsToldIn, HasTaken, IsLine, line_length, line_in, HasRead, IsFed}
+use Rattle.explicit_form.proofs.Refusals.{untold-more, untold-outcome}
 use Rattle.explicit_form.proofs.Taking.{IsAt-same, done_of-go, step_with-none}
 
 run-append : (number : List ℕ → ℕ) (logic : Logic) (st : State) (xs ys : List ℕ) → run number logic st (xs ++ ys) ≡ run number logic (run number logic st xs) ys
@@ -51,17 +52,12 @@ moves-on (b ∷ bytes) (Ok n) h l = let p = some_line b bytes in let e : n ≡ s
 moves-on bytes (Err f) h l = tt
 
 -- a piece behind another one
-IsFree-append : (number : List ℕ → ℕ) (logic : Logic) (st : State) (place : ℕ) (front more : List ℕ) → IsFree number logic st place front → IsFree number logic (run number logic st front) (place + length front) more
-    → IsFree number logic st place (front ++ more)
-IsFree-append number logic st place front more h k rest =
-    ap (outcome number logic st place) (append_assoc front more rest) ∙ h (more ++ rest) ∙ k rest
-    ∙ ap (λ s. outcome number logic s (place + length front + length more) rest) (sym (run-append number logic st front more))
-    ∙ ap (λ n. outcome number logic (run number logic st (front ++ more)) n rest) (let e = length-append front more in let g : place + length front + length more ≡ place + length (front ++ more) = omega arith in g)
-
--- nothing is told of one byte
-free-one : (number : List ℕ → ℕ) (logic : Logic) (st : State) (place b : ℕ) → fault place st (go number logic st b) ≡ None → IsFree number logic st place (b ∷ [])
-free-one number logic st place b h rest =
-    ap (λ o. unless_refused o (outcome number logic (go number logic st b) (suc place) rest)) h ∙ ap (λ n. outcome number logic (go number logic st b) n rest) (sym (add-one place))
+AreUntold-append : (number : List ℕ → ℕ) (logic : Logic) (front more : List ℕ) (st : State) (place : ℕ) → AreUntold number logic st place front → AreUntold number logic (run number logic st front) (place + length front) more
+    → AreUntold number logic st place (front ++ more)
+AreUntold-append number logic [] more st place h k = subst (λ n. AreUntold number logic st n more) (add-zero place) k
+AreUntold-append number logic (b ∷ front) more st place h k =
+    let e : place + suc (length front) ≡ suc place + length front = omega arith in
+    (h.0, AreUntold-append number logic front more (go number logic st b) (suc place) h.1 (subst (λ n. AreUntold number logic (run number logic (go number logic st b) front) n more) e k))
 
 -- one more byte
 HasTaken-next : (number : List ℕ → ℕ) (logic : Logic) (st : State) (place : ℕ) (front : List ℕ) (b : ℕ) (r s : StepReader) → HasTaken number logic st place front r → r.step ≡ None
@@ -73,7 +69,7 @@ HasTaken-next number logic st place front b r s h none t =
     let told : done_of (run number logic st front) ≡ done_of st = h.told ∙ ap (λ o. pushed o (done_of st)) none in
     record {
       where_is = rw ran t.1;
-      free = IsFree-append number logic st place front (b ∷ []) h.free (free-one number logic (run number logic st front) (place + length front) b t.0);
+      untold = untold-more number logic front st place b h.untold t.0;
       told = ap done_of ran ∙ done_of-go number logic (run number logic st front) b s t.1 ∙ ap (λ o. pushed o (done_of (run number logic st front))) (sym t.2) ∙ ap (pushed s.step) told;
     }
 
@@ -92,7 +88,7 @@ inside-begin names old bytes = record {
   taken = λ number logic st agrees h. (
     record {
       where_is = IsAt-same logic st old (record old { step = None }) refl refl h;
-      free = λ rest. ap (λ n. outcome number logic st n rest) (sym (add-zero old.at));
+      untold = tt;
       told = refl;
     },
     refl,
@@ -153,22 +149,19 @@ module _ (old_names names now : List (List ℕ)) (old r s : StepReader) (bytes :
 
   pub stops : (f : StepFault) → Answered (Err f) → (number : List ℕ → ℕ) (logic : Logic) (st : State) → Agrees number now → IsAt logic st old → IsLine number logic st old.at bytes (Err f) s
   stops OutOfMemory answered = λ number logic st agrees h. tt
-  stops (Refused x) answered = λ number logic st agrees h rest.
+  stops (Refused x) answered = λ number logic st agrees h.
       let p = before number logic st agrees h in
       let q = run number logic st (take i bytes) in
       let t = answered number logic q agrees p.0.where_is in
       let u : fault (old.at + length (take i bytes)) q (go number logic q b) ≡ Some x = subst (λ n. fault n q (go number logic q b) ≡ Some x) here t in
-      ap (λ bs. outcome number logic st old.at (bs ++ rest)) line-is
-      ∙ ap (outcome number logic st old.at) (append_assoc (take i bytes) (b ∷ behind) rest)
-      ∙ p.0.free (b ∷ (behind ++ rest))
-      ∙ ap (λ o. unless_refused o (outcome number logic (go number logic q b) (suc (old.at + length (take i bytes))) (behind ++ rest))) u
+      record { front = take i bytes; byte = b; more = behind; parts = sym line-is; untold = p.0.untold; told = u }
 
 module _ (logic : Logic) (known names : List (List ℕ)) (front bytes : List ℕ) (old new : StepReader) (read_before : HasRead logic known front old) (grows : Grows known names) where
   stands : (number : List ℕ → ℕ) → Agrees number names → IsAt logic (run number logic start front) old
   stands number agrees = read_before.where_is number (Agrees-grows known names number grows agrees)
 
-  free_before : (number : List ℕ → ℕ) → Agrees number names → IsFree number logic start 0 front
-  free_before number agrees = read_before.free number (Agrees-grows known names number grows agrees)
+  untold_before : (number : List ℕ → ℕ) → Agrees number names → AreUntold number logic start 0 front
+  untold_before number agrees = read_before.untold number (Agrees-grows known names number grows agrees)
 
   place_is : old.at ≡ 0 + length front
   place_is = read_before.place ∙ sym (zero-add (length front))
@@ -177,15 +170,14 @@ module _ (logic : Logic) (known names : List (List ℕ)) (front bytes : List ℕ
   pub fed : (result : Result ℕ StepFault) → ((number : List ℕ → ℕ) (logic : Logic) (st : State) → Agrees number names → IsAt logic st old → IsLine number logic st old.at bytes result new)
       → IfOk result (λ n. n ≡ line_length bytes) → IfOk result (λ n. new.at ≡ old.at + n) → IsFed logic names front bytes result new
   fed (Err OutOfMemory) line count place = tt
-  fed (Err (Refused x)) line count place = λ number agrees rest.
-      free_before number agrees (line_in bytes ++ rest) ∙ ap (λ n. outcome number logic (run number logic start front) n (line_in bytes ++ rest)) (sym place_is)
-      ∙ line number logic (run number logic start front) agrees (stands number agrees) rest
+  fed (Err (Refused x)) line count place = λ number agrees.
+      subst (λ n. IsToldIn number logic (run number logic start front) n (line_in bytes) x) read_before.place (line number logic (run number logic start front) agrees (stands number agrees))
   fed (Ok n) line count place =
       let ran : (number : List ℕ → ℕ) → run number logic start (front ++ take n bytes) ≡ run number logic (run number logic start front) (take n bytes) = λ number. run-append number logic start front (take n bytes) in (
         record {
           where_is = λ number agrees. subst (λ st. IsAt logic st new) (sym (ran number)) (line number logic (run number logic start front) agrees (stands number agrees)).where_is;
-          free = λ number agrees. IsFree-append number logic start 0 front (take n bytes) (free_before number agrees)
-              (subst (λ m. IsFree number logic (run number logic start front) m (take n bytes)) place_is (line number logic (run number logic start front) agrees (stands number agrees)).free);
+          untold = λ number agrees. AreUntold-append number logic front (take n bytes) start 0 (untold_before number agrees)
+              (subst (λ m. AreUntold number logic (run number logic start front) m (take n bytes)) place_is (line number logic (run number logic start front) agrees (stands number agrees)).untold);
           place =
               let w : n ≤ length bytes = subst (λ m. m ≤ length bytes) (sym count) (line_length-within bytes) in
               place ∙ ap (λ m. m + n) read_before.place ∙ ap (λ m. length front + m) (sym (length-take-le n bytes w)) ∙ sym (length-append front (take n bytes));
@@ -197,7 +189,7 @@ module _ (logic : Logic) (known names : List (List ℕ)) (front bytes : List ℕ
 module _ (logic : Logic) (names : List (List ℕ)) (bytes : List ℕ) (number : List ℕ → ℕ) (r : StepReader) (has_read : HasRead logic names bytes r) (agrees : Agrees number names) where
   at_end : outcome number logic start 0 bytes ≡ outcome_at_end r.at (run number logic start bytes)
   at_end =
-      ap (outcome number logic start 0) (sym (append-nil bytes)) ∙ has_read.free number agrees []
+      ap (outcome number logic start 0) (sym (append-nil bytes)) ∙ untold-outcome number logic bytes [] start 0 (has_read.untold number agrees)
       ∙ ap (λ n. outcome_at_end n (run number logic start bytes)) (zero-add (length bytes) ∙ sym has_read.place)
 
   pub not-whole : (r.phase ≡ phase.TheVariants.Heading) ⊎ (r.phase ≡ phase.TheVariants.Lines) → outcome number logic start 0 bytes ≡ refused (record { code = Unexpected; at = r.at })
@@ -238,23 +230,28 @@ module _ (logic : Logic) (names : List (List ℕ)) (bytes : List ℕ) (number : 
 pub fed-faulty : (logic : Logic) (known names : List (List ℕ)) (front bytes : List ℕ) (old : StepReader) (f : StepFault) → old.phase ≡ phase.TheVariants.Faulty f → HasRead logic known front old → Grows known names
     → IsFed logic names front bytes (Err f) old
 fed-faulty logic known names front bytes old OutOfMemory p h grows = tt
-fed-faulty logic known names front bytes old (Refused x) p h grows = λ number agrees rest. absurd (not-faulty logic known front number old h (Agrees-grows known names number grows agrees) (Refused x) p)
+fed-faulty logic known names front bytes old (Refused x) p h grows = λ number agrees. absurd (not-faulty logic known front number old h (Agrees-grows known names number grows agrees) (Refused x) p)
 
 -- what was read stays read while the table of names grows
 pub HasRead-grows : (logic : Logic) (known names : List (List ℕ)) (bytes : List ℕ) (r : StepReader) → HasRead logic known bytes r → Grows known names → HasRead logic names bytes r
 HasRead-grows logic known names bytes r h grows = record {
   where_is = λ number agrees. h.where_is number (Agrees-grows known names number grows agrees);
-  free = λ number agrees. h.free number (Agrees-grows known names number grows agrees);
+  untold = λ number agrees. h.untold number (Agrees-grows known names number grows agrees);
   place = h.place;
 }
 
 -- a refusal is that of each text that begins with the bytes
-pub refused-so : (logic : Logic) (names : List (List ℕ)) (front bytes : List ℕ) (x : Refusal) (r : StepReader) → IsFed logic names front bytes (Err (Refused x)) r → (number : List ℕ → ℕ) → Agrees number names → (more : List ℕ)
-    → outcome number logic start 0 (front ++ (bytes ++ more)) ≡ refused x
-refused-so logic names front bytes x r h number agrees more =
-    ap (λ bs. outcome number logic start 0 (front ++ bs))
-    (ap (λ bs. bs ++ more) (sym (take-append-drop (line_length bytes) bytes)) ∙ append_assoc (line_in bytes) (drop (line_length bytes) bytes) more)
-    ∙ h number agrees (drop (line_length bytes) bytes ++ more)
+pub refused-so : (logic : Logic) (names : List (List ℕ)) (front bytes : List ℕ) (x : Refusal) (r : StepReader) → HasRead logic names front r → IsFed logic names front bytes (Err (Refused x)) r
+    → (number : List ℕ → ℕ) → Agrees number names → (more : List ℕ) → outcome number logic start 0 (front ++ (line_in bytes ++ more)) ≡ refused x
+refused-so logic names front bytes x r h fed number agrees more =
+    let told = fed number agrees in
+    let st = run number logic start front in
+    untold-outcome number logic front (line_in bytes ++ more) start 0 (h.untold number agrees)
+    ∙ ap (λ n. outcome number logic st n (line_in bytes ++ more)) (zero-add (length front))
+    ∙ ap (λ bs. outcome number logic st (length front) (bs ++ more)) (sym told.parts)
+    ∙ ap (outcome number logic st (length front)) (append_assoc told.front (told.byte ∷ told.more) more)
+    ∙ untold-outcome number logic told.front (told.byte ∷ (told.more ++ more)) st (length front) told.untold
+    ∙ ap (λ o. unless_refused o (outcome number logic (go number logic (run number logic st told.front) told.byte) (suc (length front + length told.front)) (told.more ++ more))) told.told
 
 -- the step that was pushed onto those before comes behind them in order
 pub steps-in-order : (done : List Step) (o : Option Step) (ss : List Step) → steps_onto (pushed o done) ss ≡ steps_onto done (pushed o ss)

@@ -41,6 +41,10 @@ going-fault place st stuck h = absurd h
 within : (place : ℕ) (st next : State) → place < most_bytes → fault place st next ≡ byte_fault place st next
 within place st next l = let t : nat_le most_bytes place ≡ false = grind (arith, nat_tests) in cond-false (nat_le most_bytes place) _ _ t
 
+told-some : (c : Bool) (x y : Refusal) → (if c then Some x else Some y) ≡ None → ⊥
+told-some true x y h = cc
+told-some false x y h = cc
+
 module _ (number : List ℕ → ℕ) (logic : Logic) where
   pub untold-more : (front : List ℕ) (st : State) (place : ℕ) (b : ℕ) → AreUntold number logic st place front → fault (place + length front) (run number logic st front) (go number logic (run number logic st front) b) ≡ None → AreUntold number logic st place (front ++ b ∷ [])
   untold-more [] st place b h e = let s : place + 0 ≡ place = omega arith in (subst (λ n. fault n st (go number logic st b) ≡ None) s e, tt)
@@ -55,6 +59,28 @@ module _ (number : List ℕ → ℕ) (logic : Logic) where
       ap (λ o. unless_refused o (outcome number logic (go number logic st b) (suc place) (front ++ rest))) h.0
       ∙ untold-outcome front rest (go number logic st b) (suc place) h.1
       ∙ ap (λ n. outcome number logic (run number logic (go number logic st b) front) n rest) s
+
+  -- where the word of the other calculus comes out it ends with the byte
+  pub word_ends : (front : List ℕ) (b : ℕ) → IsGoing (run number logic start front) → go number logic (run number logic start front) b ≡ mistaken → front ++ b ∷ [] ≡ header_word (other logic)
+  word_ends front b going e = let h = (other_calculus number logic (front ++ b ∷ [])).0 (run-append number logic start front (b ∷ []) ∙ e) in by h.0 h.1 (ends h.0)
+    where
+      by : (more : List ℕ) → header_word (other logic) ++ more ≡ front ++ b ∷ [] → Ends more → front ++ b ∷ [] ≡ header_word (other logic)
+      by more same (none n) = sym same ∙ ap (λ v. header_word (other logic) ++ v) n ∙ append-nil (header_word (other logic))
+      by more same (some inner last n) =
+          let whole : header_word (other logic) ++ inner ≡ front = (same_from_push (header_word (other logic) ++ inner) front last b (append_assoc (header_word (other logic)) inner (last ∷ []) ∙ ap (λ v. header_word (other logic) ++ v) (sym n) ∙ same)).0 in
+          absurd (subst IsGoing ((other_calculus number logic front).1 (inner, whole)) going)
+
+  -- where nothing is told of a byte it was not wrong
+  pub untold-go : (place : ℕ) (st next : State) → fault place st next ≡ None → IsGoing next
+  untold-go place st (heading w) e = tt
+  untold-go place st (reading done l) e = tt
+  untold-go place st (ended done) e = tt
+  untold-go place st mistaken e = told-some (nat_le most_bytes place) (record { code = TooLarge; at = place }) (record { code = WrongCalculus; at = 6 }) e
+  untold-go place st stuck e = told-some (nat_le most_bytes place) (record { code = TooLarge; at = place }) (record { code = Unexpected; at = place }) e
+
+  pub untold-going : (bytes : List ℕ) (st : State) (place : ℕ) → IsGoing st → AreUntold number logic st place bytes → IsGoing (run number logic st bytes)
+  untold-going [] st place h k = h
+  untold-going (b ∷ bytes) st place h k = untold-going bytes (go number logic st b) (suc place) (untold-go place st (go number logic st b) k.0) k.1
 
 module _ (text : ℕ → List ℕ) (number : List ℕ → ℕ) (back : GivesBack text number) (logic : Logic) (r : Refusal) where
   begins : (front : List ℕ) → IsGoing (run number logic start front) → Begins text number logic front
@@ -72,16 +98,6 @@ module _ (text : ℕ → List ℕ) (number : List ℕ → ℕ) (back : GivesBack
   told_end front (ended done) e o = cc
   told_end front mistaken e o = let same : record { code = Unexpected; at = length front } ≡ r = cc in subst (WhyRefused text number logic front (run number logic start front) []) same (at_end (no_end front mistaken e (λ done d. cc)))
   told_end front stuck e o = let same : record { code = Unexpected; at = length front } ≡ r = cc in subst (WhyRefused text number logic front (run number logic start front) []) same (at_end (no_end front stuck e (λ done d. cc)))
-
-  -- where the word of the other calculus comes out it ends with the byte
-  word_ends : (front : List ℕ) (b : ℕ) → IsGoing (run number logic start front) → go number logic (run number logic start front) b ≡ mistaken → front ++ b ∷ [] ≡ header_word (other logic)
-  word_ends front b going e = let h = (other_calculus number logic (front ++ b ∷ [])).0 (one_more front b ∙ e) in by h.0 h.1 (ends h.0)
-    where
-      by : (more : List ℕ) → header_word (other logic) ++ more ≡ front ++ b ∷ [] → Ends more → front ++ b ∷ [] ≡ header_word (other logic)
-      by more same (none n) = sym same ∙ ap (λ v. header_word (other logic) ++ v) n ∙ append-nil (header_word (other logic))
-      by more same (some inner last n) =
-          let whole : header_word (other logic) ++ inner ≡ front = (same_from_push (header_word (other logic) ++ inner) front last b (append_assoc (header_word (other logic)) inner (last ∷ []) ∙ ap (λ v. header_word (other logic) ++ v) (sym n) ∙ same)).0 in
-          absurd (subst IsGoing ((other_calculus number logic front).1 (inner, whole)) going)
 
   here : (front : List ℕ) (b : ℕ) (bs : List ℕ) → IsGoing (run number logic start front) → AreUntold number logic start 0 front → WhyRefused text number logic front (run number logic start front) (b ∷ bs) r → IsRefused text number logic (front ++ b ∷ bs) r
   here front b bs going untold why = record { front = front; rest = b ∷ bs; parts = refl; begins = begins front going; untold = untold; why = why }
@@ -113,7 +129,7 @@ module _ (text : ℕ → List ℕ) (number : List ℕ → ℕ) (back : GivesBack
       (ap (λ m. unless_refused (told_at (length front) (state_limit (run number logic start front) m)) (outcome number logic m (suc (length front)) bs)) g ∙ e) rec
   told_byte front b bs going untold low mistaken g e rec =
       let same : record { code = WrongCalculus; at = 6 } ≡ r = cc in
-      here front b bs going untold (subst (WhyRefused text number logic front (run number logic start front) (b ∷ bs)) same (other_word b bs (word_ends front b going g)))
+      here front b bs going untold (subst (WhyRefused text number logic front (run number logic start front) (b ∷ bs)) same (other_word b bs (word_ends number logic front b going g)))
   told_byte front b bs going untold low stuck g e rec =
       let same : record { code = Unexpected; at = length front } ≡ r = cc in
       here front b bs going untold (subst (WhyRefused text number logic front (run number logic start front) (b ∷ bs)) same
@@ -164,7 +180,7 @@ module _ (text : ℕ → List ℕ) (number : List ℕ → ℕ) (back : GivesBack
   fault-stuck front b going nothing differ (heading w) g = absurd (nothing ((certificate_begins text number back logic (front ++ b ∷ [])).0 (subst IsGoing (sym (run-append number logic start front (b ∷ []) ∙ g)) tt)))
   fault-stuck front b going nothing differ (reading done l) g = absurd (nothing ((certificate_begins text number back logic (front ++ b ∷ [])).0 (subst IsGoing (sym (run-append number logic start front (b ∷ []) ∙ g)) tt)))
   fault-stuck front b going nothing differ (ended done) g = absurd (nothing ((certificate_begins text number back logic (front ++ b ∷ [])).0 (subst IsGoing (sym (run-append number logic start front (b ∷ []) ∙ g)) tt)))
-  fault-stuck front b going nothing differ mistaken g = absurd (differ (word_ends text number back logic (record { code = Unexpected; at = 0 }) front b going g))
+  fault-stuck front b going nothing differ mistaken g = absurd (differ (word_ends number logic front b going g))
   fault-stuck front b going nothing differ stuck g = refl
 
   -- what is refused so has that outcome

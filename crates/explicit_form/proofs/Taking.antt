@@ -1,5 +1,5 @@
 -- How a reader that stands at a state answers a byte.
-use Rattle.std.proofs.Common.{◌≡◌, ℕ, Bool, true, false, if◌then◌else◌, ◌||◌, List, [], ◌∷◌, ◌++◌, None, Result, refl, ◌∙◌, subst, nat_eq}
+use Rattle.std.proofs.Common.{◌≡◌, ℕ, Bool, true, false, if◌then◌else◌, ◌||◌, List, [], ◌∷◌, ◌++◌, Some, None, Result, refl, ◌∙◌, subst, nat_eq}
 use Rattle.std.specs.List.{starts_with}
 use Rattle.std.specs.Str.{bytes_eq}
 use Rattle.polarised_formulas.specs.declared.logic.Logic.{Logic}
@@ -7,12 +7,12 @@ use Rattle.polarised_formulas.specs.declared.step.Step.{Step}
 use Rattle.explicit_form.specs.StepText.{header_word, header_text}
 use Rattle.explicit_form.specs.StepReading.{Line, Next, on, whole, last, wrong, next, State, heading, reading, ended, mistaken, stuck, other, next_heading, settle, go}
 use Rattle.explicit_form.specs.StepLimits.{byte_fault}
-use Rattle.explicit_form.specs.StepLaws.{EndsAt}
+use Rattle.explicit_form.specs.StepLaws.{EndsAt, IsGoing}
 use Rattle.explicit_form.proofs.LineEnds.{line_ends}
 use Rattle.explicit_form.specs.declared.step_reader.Phase as phase
 use Rattle.explicit_form.specs.declared.step_reader.StepFault.{StepFault}
 use Rattle.explicit_form.specs.declared.step_reader.StepReader.{StepReader}
-use Rattle.explicit_form.specs.Feeding.{IsAt, IsTaken, step_of, step_with, done_of, pushed}
+use Rattle.explicit_form.specs.Feeding.{IsAt, IsTaken, step_of, step_with, done_of, pushed, is_whole}
 
 -- where a reader stands hangs on its line and phase alone
 pub IsAt-same : (logic : Logic) (st : State) (old new : StepReader) → new.phase ≡ old.phase → new.line ≡ old.line → IsAt logic st old → IsAt logic st new
@@ -56,19 +56,30 @@ done_of-heading logic w =
     (done_of-if (starts_with nat_eq (header_text logic) w || starts_with nat_eq (header_word (other logic)) w) (heading w) stuck refl refl))
 
 -- a byte adds the step whose line it ends
-pub done_of-go : (number : List ℕ → ℕ) (logic : Logic) (st : State) (b : ℕ) (r : StepReader) → IsAt logic (go number logic st b) r
-    → done_of (go number logic st b) ≡ pushed (step_with number logic st b) (done_of st)
-done_of-go number logic (heading w) b r h = done_of-heading logic (w ++ b ∷ [])
-done_of-go number logic (reading done l) b r h = by (next number logic l b) h
+pub done_of-going : (number : List ℕ → ℕ) (logic : Logic) (st : State) (b : ℕ) → IsGoing (go number logic st b) → done_of (go number logic st b) ≡ pushed (step_with number logic st b) (done_of st)
+done_of-going number logic (heading w) b h = done_of-heading logic (w ++ b ∷ [])
+done_of-going number logic (reading done l) b h = by (next number logic l b) h
   where
-    by : (n : Next) → IsAt logic (settle done n) r → done_of (settle done n) ≡ pushed (step_of n) done
+    by : (n : Next) → IsGoing (settle done n) → done_of (settle done n) ≡ pushed (step_of n) done
     by (on m) k = refl
     by (whole s) k = refl
     by last k = refl
     by wrong k = absurd k
-done_of-go number logic (ended done) b r h = absurd h
-done_of-go number logic mistaken b r h = absurd h
-done_of-go number logic stuck b r h = absurd h
+done_of-going number logic (ended done) b h = absurd h
+done_of-going number logic mistaken b h = absurd h
+done_of-going number logic stuck b h = absurd h
+
+-- a reader stands only where no byte was wrong
+IsAt-going : (logic : Logic) (st : State) (r : StepReader) → IsAt logic st r → IsGoing st
+IsAt-going logic (heading w) r h = tt
+IsAt-going logic (reading done l) r h = tt
+IsAt-going logic (ended done) r h = tt
+IsAt-going logic mistaken r h = h
+IsAt-going logic stuck r h = h
+
+pub done_of-go : (number : List ℕ → ℕ) (logic : Logic) (st : State) (b : ℕ) (r : StepReader) → IsAt logic (go number logic st b) r
+    → done_of (go number logic st b) ≡ pushed (step_with number logic st b) (done_of st)
+done_of-go number logic st b r h = done_of-going number logic st b (IsAt-going logic (go number logic st b) r h)
 
 -- a byte that ends no line ends that of no step
 pub step_with-none : (number : List ℕ → ℕ) (logic : Logic) (st : State) (b : ℕ) → nat_eq b 10 ≡ false → step_with number logic st b ≡ None
@@ -83,3 +94,42 @@ step_with-none number logic (reading done l) b h = by (next number logic l b) (l
 step_with-none number logic (ended done) b h = refl
 step_with-none number logic mistaken b h = refl
 step_with-none number logic stuck b h = refl
+
+is_whole-if : (c : Bool) (x y : State) → is_whole x ≡ false → is_whole y ≡ false → is_whole (if c then x else y) ≡ false
+is_whole-if true x y h k = h
+is_whole-if false x y h k = k
+
+-- the first line is not the last one
+is_whole-heading : (logic : Logic) (w : List ℕ) → is_whole (next_heading logic w) ≡ false
+is_whole-heading logic w =
+    is_whole-if (bytes_eq w (header_text logic)) _ _ refl
+    (is_whole-if (bytes_eq w (header_word (other logic))) mistaken _ refl
+    (is_whole-if (starts_with nat_eq (header_text logic) w || starts_with nat_eq (header_word (other logic)) w) (heading w) stuck refl refl))
+
+-- a byte that ends no line does not end the last one
+pub is_whole-none : (number : List ℕ → ℕ) (logic : Logic) (st : State) (b : ℕ) → nat_eq b 10 ≡ false → is_whole (go number logic st b) ≡ false
+is_whole-none number logic (heading w) b h = is_whole-heading logic (w ++ b ∷ [])
+is_whole-none number logic (reading done l) b h = by (next number logic l b) (line_ends number logic l b)
+  where
+    by : (n : Next) → EndsAt b n → is_whole (settle done n) ≡ false
+    by (on m) e = refl
+    by (whole s) e = refl
+    by last e = let t : nat_eq 10 10 ≡ false = subst (λ c. nat_eq c 10 ≡ false) e h in let no : ⊥ = cc in absurd no
+    by wrong e = refl
+is_whole-none number logic (ended done) b h = refl
+is_whole-none number logic mistaken b h = refl
+is_whole-none number logic stuck b h = refl
+
+-- the line of a step is not the last one
+pub is_whole-step : (number : List ℕ → ℕ) (logic : Logic) (st : State) (b : ℕ) (s : Step) → step_with number logic st b ≡ Some s → is_whole (go number logic st b) ≡ false
+is_whole-step number logic (heading w) b s h = is_whole-heading logic (w ++ b ∷ [])
+is_whole-step number logic (reading done l) b s h = by (next number logic l b) h
+  where
+    by : (n : Next) → step_of n ≡ Some s → is_whole (settle done n) ≡ false
+    by (on m) e = refl
+    by (whole t) e = refl
+    by last e = cc
+    by wrong e = refl
+is_whole-step number logic (ended done) b s h = refl
+is_whole-step number logic mistaken b s h = refl
+is_whole-step number logic stuck b s h = refl

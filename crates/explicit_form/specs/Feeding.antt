@@ -4,8 +4,8 @@ use Rattle.fpc_base.specs.declared.refusal.Refusal.{Refusal}
 use Rattle.fpc_terms.specs.Name.{Agrees}
 use Rattle.polarised_formulas.specs.declared.logic.Logic.{Logic}
 use Rattle.polarised_formulas.specs.declared.step.Step.{Step}
-use Rattle.explicit_form.specs.StepReading.{in_word, Next, on, whole, last, wrong, next, State, heading, reading, ended, mistaken, stuck, start, run, steps_of}
-use Rattle.explicit_form.specs.StepLimits.{outcome, read, refused}
+use Rattle.explicit_form.specs.StepReading.{in_word, Next, on, whole, last, wrong, next, State, heading, reading, ended, mistaken, stuck, start, go, run, steps_of}
+use Rattle.explicit_form.specs.StepLimits.{fault, outcome, read, refused, AreUntold}
 use Rattle.explicit_form.specs.declared.step_reader.Phase as phase
 use Rattle.explicit_form.specs.declared.step_reader.StepFault.{StepFault}
 use Rattle.explicit_form.specs.declared.step_reader.StepFault.TheVariants.{Refused, OutOfMemory}
@@ -54,14 +54,19 @@ abbrev pub pushed : Option Step → List Step → List Step
 pushed None done = done
 pushed (Some s) done = s ∷ done
 
--- nothing is told of these bytes, which come at a place behind a state
-abbrev pub IsFree : (List ℕ → ℕ) → Logic → State → ℕ → List ℕ → Type 0
-IsFree number logic st place bytes = (rest : List ℕ) → outcome number logic st place (bytes ++ rest) ≡ outcome number logic (run number logic st bytes) (place + length bytes) rest
+-- Something is told of one of these bytes, which come at a place behind a state, and nothing of those in front of it.
+pub record IsToldIn (number : List ℕ → ℕ) (logic : Logic) (st : State) (place : ℕ) (bytes : List ℕ) (x : Refusal) : Type 0 where
+  pub front : List ℕ
+  pub byte : ℕ
+  pub more : List ℕ
+  pub parts : front ++ byte ∷ more ≡ bytes
+  pub untold : AreUntold number logic st place front
+  pub told : fault (place + length front) (run number logic st front) (go number logic (run number logic st front) byte) ≡ Some x
 
 -- The reader has taken these bytes, which came at a place behind a state. It has the step whose line they ended, if any.
 pub record HasTaken (number : List ℕ → ℕ) (logic : Logic) (st : State) (place : ℕ) (bytes : List ℕ) (r : StepReader) : Type 0 where
   pub where_is : IsAt logic (run number logic st bytes) r
-  pub free : IsFree number logic st place bytes
+  pub untold : AreUntold number logic st place bytes
   pub told : done_of (run number logic st bytes) ≡ pushed r.step (done_of st)
 
 -- how many of the bytes there are up to and with the first end of a line, or in all
@@ -73,25 +78,25 @@ line_length (b ∷ bs) = if nat_eq b 10 then 1 else suc (line_length bs)
 abbrev pub line_in : List ℕ → List ℕ
 line_in bytes = take (line_length bytes) bytes
 
--- The answer to bytes that come at a place behind a state. A refusal is told of the first line of them, whatever comes behind it.
+-- The answer to bytes that come at a place behind a state. A refusal is told of a byte of the first line of them.
 abbrev pub IsLine : (List ℕ → ℕ) → Logic → State → ℕ → List ℕ → Result ℕ StepFault → StepReader → Type 0
 IsLine number logic st place bytes (Ok n) r = HasTaken number logic st place (take n bytes) r
-IsLine number logic st place bytes (Err (Refused x)) r = (rest : List ℕ) → outcome number logic st place (line_in bytes ++ rest) ≡ refused x
+IsLine number logic st place bytes (Err (Refused x)) r = IsToldIn number logic st place (line_in bytes) x
 IsLine number logic st place bytes (Err OutOfMemory) r = Unit {0}
 
 -- The reader has read these bytes of a certificate of the logic, with a table of names, and nothing is told of any of them.
 pub record HasRead (logic : Logic) (names : List (List ℕ)) (bytes : List ℕ) (r : StepReader) : Type 0 where
   pub where_is : (number : List ℕ → ℕ) → Agrees number names → IsAt logic (run number logic start bytes) r
-  pub free : (number : List ℕ → ℕ) → Agrees number names → IsFree number logic start 0 bytes
+  pub untold : (number : List ℕ → ℕ) → Agrees number names → AreUntold number logic start 0 bytes
   pub place : r.at ≡ length bytes
 
--- The answer to bytes behind others that were read: so many were read too, with the line of at most one step, or a refusal is told of each text that begins with those
--- others and the first line of these.
+-- The answer to bytes behind others that were read: so many were read too, with the line of at most one step, or a refusal is told of a byte of the first line of
+-- these.
 abbrev pub IsFed : Logic → List (List ℕ) → List ℕ → List ℕ → Result ℕ StepFault → StepReader → Type 0
 IsFed logic names before bytes (Ok n) r =
     HasRead logic names (before ++ take n bytes) r
     × ((number : List ℕ → ℕ) → Agrees number names → done_of (run number logic start (before ++ take n bytes)) ≡ pushed r.step (done_of (run number logic start before)))
-IsFed logic names before bytes (Err (Refused x)) r = (number : List ℕ → ℕ) → Agrees number names → (rest : List ℕ) → outcome number logic start 0 (before ++ (line_in bytes ++ rest)) ≡ refused x
+IsFed logic names before bytes (Err (Refused x)) r = (number : List ℕ → ℕ) → Agrees number names → IsToldIn number logic (run number logic start before) (length before) (line_in bytes) x
 IsFed logic names before bytes (Err OutOfMemory) r = Unit {0}
 
 -- the last line is read
