@@ -1,35 +1,160 @@
--- What the steps so far say of a verdict.
-use Rattle.std.proofs.Common.{◌≡◌, ℕ, List, [], Result, IfOk, arith, subst, sym}
+-- What is told where the check of a certificate ends or stops.
+use Rattle.std.proofs.Common.{◌≡◌, ℕ, ◌+◌, ◌-◌, ◌≤◌, ◌⊎◌, inl, inr, Bool, true, false, if◌then◌else◌, List, [], ◌∷◌, ◌++◌, length, take, drop, Option, Some, None, Result, Ok, Err, IfOk, refl, sym, ap, ◌∙◌, subst, arith, zero-add, append_assoc, append-nil}
+use Rattle.std.proofs.lemmas.List.{length-append, length-drop, take_all, take-append-drop}
+use Rattle.std.proofs.Math.Seq.{take-add}
+use Rattle.fpc_base.specs.Outside.{TakesFront, IsAtEnd}
+use Rattle.fpc_base.proofs.Moves.{TakesFront-nothing, TakesFront-more}
+use Rattle.fpc_base.specs.declared.refusal.Code.TheVariants.{Unexpected}
+use Rattle.fpc_base.specs.declared.refusal.Refusal.{Refusal}
+use Rattle.fpc_terms.specs.Name.{Agrees, AreDifferent, Grows}
+use Rattle.polarised_formulas.specs.declared.logic.Logic.TheVariants.{Lkf}
 use Rattle.polarised_formulas.specs.Formula.{Formula, IsClosed}
+use Rattle.polarised_formulas.specs.Numbering.{number_in, text_in}
+use Rattle.polarised_formulas.proofs.Numberings.{GivesBack-number_in, Agrees-number_in}
 use Rattle.lkf_rules.specs.Sequent.{Levelled}
-use Rattle.lkf_rules.specs.Play.{Plays, PlaysOut, start_of}
-use Rattle.lkf_rules.specs.Certificate.{IsSpelling}
-use Rattle.lkf_rules.proofs.Spelling.{IsSpelling-plays}
-use Rattle.explicit_kernel.specs.declared.verify.Check as check
+use Rattle.explicit_form.specs.StepReading.{State, heading, reading, ended, mistaken, stuck, start, run}
+use Rattle.explicit_form.specs.StepLimits.{Outcome, read, refused as outcome_refused, outcome, outcome_at_end, AreUntold}
+use Rattle.explicit_form.specs.Feeding.{is_whole, IsFinished}
+use Rattle.explicit_form.specs.declared.step_reader.StepFault.{StepFault}
+use Rattle.explicit_form.specs.declared.step_reader.StepFault.TheVariants.{Refused as ReaderRefused, OutOfMemory as ReaderNoMemory}
+use Rattle.explicit_form.proofs.Refusals.{untold-outcome}
+use Rattle.explicit_kernel.specs.Judgment.{Judgment, accepted, rejected, refused, Course, going, judged, at_end, course_of, judgment}
+use Rattle.explicit_kernel.specs.Check.{HasCome, IsUnderWay, IsStopped, IsFinal, stop_of, IsShown, IsJudged, IsRight, IsAnswerTo}
+use Rattle.explicit_kernel.proofs.JudgmentLaws.{accepted_is_spelled}
+use Rattle.explicit_kernel.specs.declared.check.Check as check
+use Rattle.explicit_kernel.specs.declared.check.Stop.{Stop}
+use Rattle.explicit_kernel.specs.declared.check.Stop.TheVariants.{Rejected, Refused, OutOfMemory}
 use Rattle.explicit_kernel.specs.declared.verify.Verdict.{Verdict}
-use Rattle.explicit_kernel.specs.declared.verify.Verdict.TheVariants.{Accepted}
+use Rattle.explicit_kernel.specs.declared.verify.Verdict.TheVariants.{Accepted, Rejected as RejectedAt}
 use Rattle.explicit_kernel.specs.declared.verify.VerifyRefusal.{VerifyRefusal}
-use Rattle.explicit_kernel.specs.declared.verify.Stop.{Stop}
-use Rattle.explicit_kernel.specs.declared.verify.Stop.TheVariants.{Rejected, Refused, OutOfMemory}
-use Rattle.explicit_kernel.specs.Progress.{Advances, ComesTo}
-use Rattle.explicit_kernel.specs.Check.{IsRight, IsStoppedFrom, IsAnswerTo}
-use Rattle.explicit_kernel.proofs.Advancing.{Advances-more}
+use Rattle.explicit_kernel.specs.declared.verify.VerifyRefusal.TheVariants.{Refused as RefusedAt, ReadFault, OutOfMemory as NoMemory}
 
--- a goal that is played out is accepted rightly
-pub IsRight-out : (f : Formula) (q : List Levelled) (n : ℕ) → IsClosed f → Advances (start_of f) 0 q n → q ≡ [] → IsRight f (Accepted n)
-IsRight-out f q n closed (steps, ps, e) empty =
-    let out : PlaysOut f steps = subst (λ (r : List Levelled). Plays (start_of f) steps r) empty ps in
-    let s : IsSpelling f steps = IsSpelling-plays f steps closed out in
-    ((steps, s, omega arith), s.derivation)
+module _ (names : List (List ℕ)) (goal : Formula) (bytes : List ℕ) (c : check.Check) (come : HasCome names goal bytes c) where
+  end-of : (number : List ℕ → ℕ) → Agrees number names → outcome number Lkf start 0 bytes ≡ outcome_at_end (length bytes) (run number Lkf start bytes)
+  end-of number agrees =
+      ap (outcome number Lkf start 0) (sym (append-nil bytes)) ∙ untold-outcome number Lkf bytes [] start 0 (come.read.untold number agrees)
+      ∙ ap (λ n. outcome_at_end n (run number Lkf start bytes)) (zero-add (length bytes))
 
-pub IsRight-accepted : (f : Formula) (q : List Levelled) (n : ℕ) (v : Verdict) → IsClosed f → Advances (start_of f) 0 q n → (v ≡ Accepted n) × (q ≡ []) → IsRight f v
-IsRight-accepted f q n v closed a (e, empty) = subst (λ (w : Verdict). IsRight f w) (sym e) (IsRight-out f q n closed a empty)
+  ends-so : (number : List ℕ → ℕ) → Agrees number names → judgment number goal bytes ≡ at_end (length bytes) (going (run number Lkf start bytes) c.play.pending c.play.fitted)
+  ends-so number agrees = ap (at_end (length bytes)) (come.course number agrees)
 
--- a check that stopped is answered rightly
-pub IsRight-stopped : (f : Formula) (old new : check.Check) (stop : Stop) (answer : Result Verdict VerifyRefusal) → IsAnswerTo stop answer → IsStoppedFrom old new stop → Advances (start_of f) 0 old.play.pending old.play.fitted → IfOk answer (IsRight f)
-IsRight-stopped f old new (Rejected k) answer e (m, (q, n, more, l)) a = rw e (go (Advances-more (start_of f) old.play.pending q 0 old.play.fitted n a more))
-  where
-    go : Advances (start_of f) 0 q n → ComesTo f k
-    go (steps, ps, c) = (steps, q, ps, omega arith)
-IsRight-stopped f old new (Refused r) answer e s a = rw e tt
-IsRight-stopped f old new OutOfMemory answer e s a = rw e tt
+  -- a whole certificate is accepted
+  pub accepted-at-end : (number : List ℕ → ℕ) → Agrees number names → IsFinished number Lkf bytes (Ok tt) → judgment number goal bytes ≡ accepted c.play.fitted
+  accepted-at-end number agrees h = ends-so number agrees ∙ by (run number Lkf start bytes) (sym (end-of number agrees) ∙ h)
+    where
+      by : {o : _} (st : State) → outcome_at_end (length bytes) st ≡ read o → at_end (length bytes) (going st c.play.pending c.play.fitted) ≡ accepted c.play.fitted
+      by (heading w) e = cc
+      by (reading done l) e = cc
+      by (ended done) e = refl
+      by mistaken e = cc
+      by stuck e = cc
+
+  unfinished : (number : List ℕ → ℕ) → Agrees number names → (x : Refusal) → IsFinished number Lkf bytes (Err (ReaderRefused x)) → (x ≡ record { code = Unexpected; at = length bytes }) × (judgment number goal bytes ≡ refused x c.play.fitted)
+  unfinished number agrees x h = let p = by (run number Lkf start bytes) (sym (end-of number agrees) ∙ h) in (p.0, ends-so number agrees ∙ p.1)
+    where
+      of : (st : State) → at_end (length bytes) (going st c.play.pending c.play.fitted) ≡ refused (record { code = Unexpected; at = length bytes }) c.play.fitted → outcome_refused (record { code = Unexpected; at = length bytes }) ≡ outcome_refused x
+          → (x ≡ record { code = Unexpected; at = length bytes }) × (at_end (length bytes) (going st c.play.pending c.play.fitted) ≡ refused x c.play.fitted)
+      of st g e = let same : record { code = Unexpected; at = length bytes } ≡ x = cc in (sym same, g ∙ ap (λ r. refused r c.play.fitted) same)
+
+      by : (st : State) → outcome_at_end (length bytes) st ≡ outcome_refused x → (x ≡ record { code = Unexpected; at = length bytes }) × (at_end (length bytes) (going st c.play.pending c.play.fitted) ≡ refused x c.play.fitted)
+      by (heading w) e = of (heading w) refl e
+      by (reading done l) e = of (reading done l) refl e
+      by (ended done) e = cc
+      by mistaken e = of mistaken refl e
+      by stuck e = of stuck refl e
+
+  -- what the reader tells at the end
+  pub final : AreDifferent names → (fault : StepFault) → ((number : List ℕ → ℕ) → Agrees number names → IsFinished number Lkf bytes (Err fault)) → IsFinal names goal bytes c (Err (stop_of fault))
+  final differ (ReaderRefused x) h =
+      let number = number_in (length names) names in
+      let agrees = Agrees-number_in (length names) names differ in
+      (ap (λ r. r.at) (unfinished number agrees x (h number agrees)).0, λ number agrees. (unfinished number agrees x (h number agrees)).1)
+  final differ ReaderNoMemory h = tt
+
+-- what is shown behind more bytes is shown behind fewer
+pub stopped-from : (names : List (List ℕ)) (goal : Formula) (least less : ℕ) (bytes more : List ℕ) (c : check.Check) (stop : Stop) → less ≤ least → bytes ≡ more → IsStopped names goal least bytes c stop → IsStopped names goal less more c stop
+stopped-from names goal least less bytes more c (Rejected k) low e (f, h) = (f, λ number agrees. let r = h number agrees in (r.0, (subst (λ bs. course_of number goal bs ≡ judged (rejected k r.0)) e r.1.0, (let l = r.1.1 in omega (arith, low, l)))))
+stopped-from names goal least less bytes more c (Refused x) low e h = λ number agrees. let r = h number agrees in (subst (λ bs. course_of number goal bs ≡ judged (refused x c.play.fitted)) e r.0, (let l = r.1 in omega (arith, low, l)))
+stopped-from names goal least less bytes more c OutOfMemory low e h = tt
+
+-- the rest of a piece behind some of its bytes
+pub rest-is : (piece : List ℕ) (fed : ℕ) → take (length piece - fed) (drop fed piece) ≡ drop fed piece
+rest-is piece fed = let l = length-drop fed piece in take_all (length piece - fed) (drop fed piece) (omega (arith, l))
+
+pub whole-is : (before piece : List ℕ) (fed : ℕ) → (before ++ take fed piece) ++ take (length piece - fed) (drop fed piece) ≡ before ++ piece
+whole-is before piece fed =
+    ap (λ bs. (before ++ take fed piece) ++ bs) (rest-is piece fed) ∙ append_assoc before (take fed piece) (drop fed piece) ∙ ap (λ bs. before ++ bs) (take-append-drop fed piece)
+
+-- the check has come behind one more part of a piece
+pub come-taken : (names : List (List ℕ)) (goal : Formula) (before piece : List ℕ) (fed n : ℕ) (c : check.Check) → HasCome names goal ((before ++ take fed piece) ++ take n (take (length piece - fed) (drop fed piece))) c → HasCome names goal (before ++ take (fed + n) piece) c
+come-taken names goal before piece fed n c h =
+    subst (λ bs. HasCome names goal bs c) (ap (λ bs. (before ++ take fed piece) ++ take n bs) (rest-is piece fed) ∙ append_assoc before (take fed piece) (take n (drop fed piece)) ∙ ap (λ bs. before ++ bs) (sym (take-add fed n piece))) h
+
+IsAtEnd-nothing : (old new : Option (List ℕ)) → IsAtEnd old → TakesFront old [] new → IsAtEnd new
+IsAtEnd-nothing None new h t = rw t tt
+IsAtEnd-nothing (Some x) None h t = tt
+IsAtEnd-nothing (Some x) (Some y) h t = sym t ∙ h
+
+-- no byte is taken, and there was no memory
+pub judged-memory : (names : List (List ℕ)) (goal : Formula) (left : Option (List ℕ)) (before now : ℕ) → IsJudged names goal left left before now (Err NoMemory)
+judged-memory names goal left before now = record { bytes = []; taken = TakesFront-nothing left; shown = λ number agrees. tt }
+
+module _ (names : List (List ℕ)) (goal : Formula) (old mid new : Option (List ℕ)) (before now : ℕ) (front : List ℕ) (c : check.Check) (taken : TakesFront old front mid) (come : HasCome names goal front c) (ticks : now ≡ before + c.play.fitted) where
+  -- a read failed behind bytes that show nothing
+  pub judged-fault : new ≡ mid → IsJudged names goal old new before now (Err ReadFault)
+  judged-fault e = record {
+    bytes = front;
+    taken = subst (TakesFront old front) (sym e) taken;
+    shown = λ number agrees. (run number Lkf start front, (c.play.pending, (c.play.fitted, (come.course number agrees, ticks))));
+  }
+
+  module _ (at_the_end : IsAtEnd mid) (same : TakesFront mid [] new) where
+    ended-so : TakesFront old front new
+    ended-so = subst (λ bs. TakesFront old bs new) (append-nil front) (TakesFront-more old mid new front [] taken same)
+
+    left-end : IsAtEnd new
+    left-end = IsAtEnd-nothing mid new at_the_end same
+
+    pub judged-accepted : (n : ℕ) → IsFinal names goal front c (Ok n) → IsJudged names goal old new before now (Ok (Accepted n))
+    judged-accepted n (is, h) = record { bytes = front; taken = ended-so; shown = λ number agrees. (h number agrees, left-end, omega (arith, ticks, is)) }
+
+    pub judged-unfinished : (stop : Stop) (answer : Result Verdict VerifyRefusal) → IsFinal names goal front c (Err stop) → IsAnswerTo stop answer → IsJudged names goal old new before now answer
+    judged-unfinished (Rejected k) answer h e = absurd h
+    judged-unfinished (Refused r) answer (lies, h) e =
+        rw e (record { bytes = front; taken = ended-so; shown = λ number agrees. (c.play.fitted, (h number agrees, inl left-end, omega (arith, lies), ticks)) })
+    judged-unfinished OutOfMemory answer h e = rw e (record { bytes = front; taken = ended-so; shown = λ number agrees. tt })
+
+-- the bytes of a piece show why the check stopped
+pub judged-stop : (names : List (List ℕ)) (goal : Formula) (old mid new : Option (List ℕ)) (before now : ℕ) (front piece : List ℕ) (c : check.Check) (stop : Stop) (answer : Result Verdict VerifyRefusal)
+    → TakesFront old front mid → TakesFront mid piece new → length piece ≤ 32768 → now ≡ before + c.play.fitted → IsStopped names goal (length front) (front ++ piece) c stop → IsAnswerTo stop answer → IsJudged names goal old new before now answer
+judged-stop names goal old mid new before now front piece c (Rejected k) answer taken more short ticks (is, h) e =
+    rw e (record {
+      bytes = front ++ piece;
+      taken = TakesFront-more old mid new front piece taken more;
+      shown = λ number agrees.
+          let r = h number agrees in let low = r.1.1 in let l = length-append front piece in
+          (r.0, (r.1.0, omega (arith, low, l), omega (arith, is)));
+    })
+judged-stop names goal old mid new before now front piece c (Refused r) answer taken more short ticks h e =
+    rw e (record {
+      bytes = front ++ piece;
+      taken = TakesFront-more old mid new front piece taken more;
+      shown = λ number agrees.
+          let s = h number agrees in let low = s.1 in let l = length-append front piece in
+          (c.play.fitted, (ap (at_end (length (front ++ piece))) s.0, inr s.0, omega (arith, low, l), ticks));
+    })
+judged-stop names goal old mid new before now front piece c OutOfMemory answer taken more short ticks h e =
+    rw e (record { bytes = front ++ piece; taken = TakesFront-more old mid new front piece taken more; shown = λ number agrees. tt })
+
+-- what is accepted is spelled, and derivable
+pub right-of : (names : List (List ℕ)) (goal : Formula) (old new : Option (List ℕ)) (before now : ℕ) (answer : Result Verdict VerifyRefusal) → AreDifferent names → IsClosed goal → IsJudged names goal old new before now answer
+    → IfOk answer (IsRight goal)
+right-of names goal old new before now (Ok (Accepted n)) differ closed h =
+    let least = length names in
+    let number = number_in least names in
+    let low : length names ≤ least = omega arith in
+    let shown = h.shown number (Agrees-number_in least names differ) in
+    let a = (accepted_is_spelled (text_in least names) number (GivesBack-number_in least names low) goal closed h.bytes n).0 shown.0 in
+    ((a.steps, a.spelling, a.count), a.spelling.derivation)
+right-of names goal old new before now (Ok (RejectedAt k)) differ closed h = tt
+right-of names goal old new before now (Err e) differ closed h = tt

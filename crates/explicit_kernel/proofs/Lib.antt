@@ -1,5 +1,10 @@
 pub mod StackFacts
 pub mod Sharing
 pub mod NamingFacts
-pub mod Advancing
+pub mod Courses
+pub mod Coming
 pub mod Judging
+pub mod Standing
+pub mod JudgmentLaws
+pub mod RejectionLaws
+pub mod RefusalLaws

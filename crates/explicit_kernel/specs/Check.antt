@@ -1,81 +1,123 @@
--- A certificate that is being checked.
-use Rattle.std.specs.Prelude.{◌≡◌, ◌⊎◌, ℕ, ◌+◌, ◌≤◌, [], List, Option, Result, Ok, Err}
+-- What the check of a certificate answers, by the bytes that it took.
+use Rattle.std.specs.Prelude.{◌≡◌, ◌≢◌, ◌⊎◌, ℕ, ◌+◌, ◌≤◌, Bool, true, false, List, [], ◌++◌, length, take, Option, Result, Ok, Err}
+use Rattle.fpc_base.specs.Outside.{Rose, TakesFront, IsAtEnd}
+use Rattle.fpc_base.specs.declared.refusal.Refusal.{Refusal}
+use Rattle.fpc_terms.specs.Name.{Agrees}
+use Rattle.polarised_formulas.specs.declared.logic.Logic.TheVariants.{Lkf}
 use Rattle.polarised_formulas.specs.Formula.{Formula}
 use Rattle.lkf_rules.specs.Sequent.{Levelled}
 use Rattle.lkf_rules.specs.Derivation.{IsDerivable}
+use Rattle.explicit_form.specs.StepReading.{State, start, run}
+use Rattle.explicit_form.specs.StepLimits.{most_bytes}
+use Rattle.explicit_form.specs.Feeding.{HasRead, is_whole}
+use Rattle.explicit_form.specs.declared.step_reader.StepReader.{StepReader}
+use Rattle.explicit_form.specs.declared.step_reader.StepFault.{StepFault}
+use Rattle.explicit_form.specs.declared.step_reader.StepFault.TheVariants.{Refused as ReaderRefused, OutOfMemory as ReaderNoMemory}
 use Rattle.explicit_kernel.specs.Pending.{AreLow}
-use Rattle.explicit_kernel.specs.Progress.{Advances, HasSpelling, ComesTo}
-use Rattle.fpc_base.specs.Outside.{Rose, IsAtEnd}
-use Rattle.fpc_base.specs.declared.refusal.Refusal.{Refusal}
-use Rattle.fpc_base.specs.declared.refusal.Code.TheVariants.{NotBuilt, TooLarge}
+use Rattle.explicit_kernel.specs.Progress.{Follows, IsUnfit, HasSpelling}
+use Rattle.explicit_kernel.specs.Judgment.{Course, going, judged, accepted, rejected, refused, course_of, at_end, judgment}
 use Rattle.explicit_kernel.specs.declared.verify.Verdict.{Verdict}
-use Rattle.explicit_kernel.specs.declared.verify.Verdict.TheVariants.{Accepted, Rejected as RejectedAt}
+use Rattle.explicit_kernel.specs.declared.verify.Verdict.TheVariants.{Accepted, Rejected}
 use Rattle.explicit_kernel.specs.declared.verify.VerifyRefusal.{VerifyRefusal}
-use Rattle.explicit_kernel.specs.declared.verify.VerifyRefusal.TheVariants.{Refused as RefusedAt, ReadFault, OutOfMemory as NoMemory}
-use Rattle.explicit_kernel.specs.declared.verify.Check as check
-use Rattle.explicit_kernel.specs.declared.verify.Part.{Part}
-use Rattle.explicit_kernel.specs.declared.verify.Part.TheVariants.{Header, Steps, Nothing}
-use Rattle.explicit_kernel.specs.declared.verify.Stop.{Stop}
-use Rattle.explicit_kernel.specs.declared.verify.Stop.TheVariants.{Rejected, Refused, OutOfMemory}
+use Rattle.explicit_kernel.specs.declared.verify.VerifyRefusal.TheVariants.{Refused, ReadFault, OutOfMemory}
+use Rattle.explicit_kernel.specs.declared.check.Check as check
+use Rattle.explicit_kernel.specs.declared.check.Stop.{Stop}
+use Rattle.explicit_kernel.specs.declared.check.Stop.TheVariants.{Rejected as StopsRejected, Refused as StopsRefused, OutOfMemory as StopsNoMemory}
 
--- where nothing may come any more, nothing is left to derive
-abbrev pub IsClosedBy : Part → List Levelled → Type 0
-IsClosedBy Header q = Unit {0}
-IsClosedBy Steps q = Unit {0}
-IsClosedBy Nothing q = q ≡ []
-
--- the check goes on: its counts are within their bounds
-pub record IsUnderWay (c : check.Check) : Type 0 where
+-- The check has come behind these bytes of a certificate for the goal, read with a table of names: they show nothing yet.
+pub record HasCome (names : List (List ℕ)) (goal : Formula) (bytes : List ℕ) (c : check.Check) : Type 0 where
+  pub read : HasRead Lkf names bytes c.reader
+  pub course : (number : List ℕ → ℕ) → Agrees number names → course_of number goal bytes ≡ going (run number Lkf start bytes) c.play.pending c.play.fitted
   pub low : AreLow c.play.fitted c.play.pending
-  pub few : c.play.fitted ≤ c.at
-  pub within : c.at ≤ 67108864
-  pub line : c.line_at ≤ c.at
-  pub closed : IsClosedBy c.part c.play.pending
+  pub few : c.play.fitted ≤ length bytes
+  pub short : length bytes ≤ most_bytes
+
+-- the check has come behind some bytes of a certificate for some goal
+abbrev pub IsUnderWay : List (List ℕ) → check.Check → Type 0
+IsUnderWay names c = (goal : Formula) × (bytes : List ℕ) × HasCome names goal bytes c
 
 -- a tick for each step that fitted
 abbrev pub HasTicks : check.Check → check.Check → ℕ → ℕ → Type 0
 HasTicks old new before now = now + old.play.fitted ≡ before + new.play.fitted
 
--- a refusal of a certificate at this stage: of what can't be read yet, or for its size
-abbrev pub IsPlainRefusal : Refusal → Type 0
-IsPlainRefusal r = ((r.code ≡ NotBuilt) × (r.at ≤ 67108864)) ⊎ ((r.code ≡ TooLarge) × (r.at ≡ 67108864))
+-- The bytes of a certificate for the goal show why the check stopped: a step is rejected at a place behind the first so many bytes, or a refusal is told of a byte
+-- behind them. The word of the other calculus is told two bytes behind its place.
+abbrev pub IsStopped : List (List ℕ) → Formula → ℕ → List ℕ → check.Check → Stop → Type 0
+IsStopped names goal least bytes c (StopsRejected k) =
+    (c.play.fitted + 1 ≡ k) × ((number : List ℕ → ℕ) → Agrees number names → (place : ℕ) × ((course_of number goal bytes ≡ judged (rejected k place)) × (least ≤ place)))
+IsStopped names goal least bytes c (StopsRefused r) =
+    (number : List ℕ → ℕ) → Agrees number names → (course_of number goal bytes ≡ judged (refused r c.play.fitted)) × (least ≤ r.at + 2)
+IsStopped names goal least bytes c StopsNoMemory = Unit {0}
 
--- the check stopped: a rejection tells the number of the next step
-abbrev pub IsStopped : check.Check → check.Check → Stop → Type 0
-IsStopped old new (Rejected k) = (old.play.fitted + 1 ≡ k) × (new.play.fitted ≡ old.play.fitted)
-IsStopped old new (Refused r) = IsPlainRefusal r
-IsStopped old new OutOfMemory = Unit {0}
+-- The answer to bytes behind others: so many of them are taken and show nothing, or they show why the check stopped.
+abbrev pub IsTakenOn : List (List ℕ) → Formula → List ℕ → List ℕ → Result ℕ Stop → check.Check → Type 0
+IsTakenOn names goal before bytes (Ok n) c = HasCome names goal (before ++ take n bytes) c
+IsTakenOn names goal before bytes (Err stop) c = IsStopped names goal (length before) (before ++ bytes) c stop
 
--- the check stopped somewhere behind
-abbrev pub IsStoppedFrom : check.Check → check.Check → Stop → Type 0
-IsStoppedFrom old new (Rejected k) =
-    (new.play.fitted + 1 ≡ k) × ((q : List Levelled) × (n : ℕ) × Advances old.play.pending old.play.fitted q n × (n + 1 ≡ k))
-IsStoppedFrom old new (Refused r) = IsPlainRefusal r
-IsStoppedFrom old new OutOfMemory = Unit {0}
+-- by each numbering the bytes that the reader has read hold the last line, or do not, as the flag says
+abbrev pub Ends : Bool → StepReader → Type 0
+Ends flag r = (names : List (List ℕ)) (bytes : List ℕ) (number : List ℕ → ℕ) → HasRead Lkf names bytes r → Agrees number names → is_whole (run number Lkf start bytes) ≡ flag
 
--- a verdict is right for the goal
+-- where the last line is read nothing is left, or the step behind the last one is rejected
+abbrev pub IsClosed : check.Check → Result (Unit {0}) Stop → Type 0
+IsClosed c (Ok u) = (c.play.pending ≡ []) ⊎ Ends false c.reader
+IsClosed c (Err (StopsRejected k)) = (k ≡ c.play.fitted + 1) × (c.play.pending ≢ []) × Ends true c.reader
+IsClosed c (Err (StopsRefused r)) = ⊥
+IsClosed c (Err StopsNoMemory) = ⊥
+
+-- the step that the reader has, if any, was played, or is rejected
+abbrev pub IsFollowed : check.Check → check.Check → Result (Unit {0}) Stop → Type 0
+IsFollowed old new (Ok u) = Follows old.reader.step old.play new.play × ((new.play.pending ≡ []) ⊎ Ends false new.reader)
+IsFollowed old new (Err (StopsRejected k)) =
+    (k ≡ new.play.fitted + 1)
+    × ((IsUnfit old.reader.step old.play × (new.play.fitted ≡ old.play.fitted)) ⊎ (Follows old.reader.step old.play new.play × (new.play.pending ≢ []) × Ends true new.reader))
+IsFollowed old new (Err (StopsRefused r)) = ⊥
+IsFollowed old new (Err StopsNoMemory) = Unit {0}
+
+-- why the check stops where the reader tells a fault
+abbrev pub stop_of : StepFault → Stop
+stop_of (ReaderRefused r) = StopsRefused r
+stop_of ReaderNoMemory = StopsNoMemory
+
+-- the answer at the end of the bytes
+abbrev pub IsFinal : List (List ℕ) → Formula → List ℕ → check.Check → Result ℕ Stop → Type 0
+IsFinal names goal bytes c (Ok n) = (n ≡ c.play.fitted) × ((number : List ℕ → ℕ) → Agrees number names → judgment number goal bytes ≡ accepted n)
+IsFinal names goal bytes c (Err (StopsRejected k)) = ⊥
+IsFinal names goal bytes c (Err (StopsRefused r)) = (r.at ≡ length bytes) × ((number : List ℕ → ℕ) → Agrees number names → judgment number goal bytes ≡ refused r c.play.fitted)
+IsFinal names goal bytes c (Err StopsNoMemory) = Unit {0}
+
+-- the most bytes that are taken behind the one that decides
+abbrev pub most_ahead : ℕ
+most_ahead = 65536
+
+-- What the bytes taken have shown, their number, what is left of the source, and the ticks of steps before and now tell the answer.
+abbrev pub IsShown : Course → ℕ → Option (List ℕ) → ℕ → ℕ → Result Verdict VerifyRefusal → Type 0
+IsShown c taken left before now (Ok (Accepted n)) = (at_end taken c ≡ accepted n) × IsAtEnd left × (now ≡ before + n)
+IsShown c taken left before now (Ok (Rejected k)) = (place : ℕ) × ((c ≡ judged (rejected k place)) × (taken ≤ place + 1 + most_ahead) × (now + 1 ≡ before + k))
+IsShown c taken left before now (Err (Refused r)) =
+    (fitted : ℕ) × ((at_end taken c ≡ refused r fitted) × (IsAtEnd left ⊎ (c ≡ judged (refused r fitted))) × (taken ≤ r.at + 1 + most_ahead) × (now ≡ before + fitted))
+IsShown c taken left before now (Err ReadFault) = (st : State) × ((q : List Levelled) × ((n : ℕ) × ((c ≡ going st q n) × (now ≡ before + n))))
+IsShown c taken left before now (Err OutOfMemory) = Unit {0}
+
+-- Some bytes were taken from the front of a source, and they show the answer of a certificate for the goal, by each numbering that agrees with the table of names.
+pub record IsJudged (names : List (List ℕ)) (goal : Formula) (old new : Option (List ℕ)) (before now : ℕ) (answer : Result Verdict VerifyRefusal) : Type 0 where
+  pub bytes : List ℕ
+  pub taken : TakesFront old bytes new
+  pub shown : (number : List ℕ → ℕ) → Agrees number names → IsShown (course_of number goal bytes) (length bytes) new before now answer
+
+-- the answer where the check stopped
+abbrev pub IsAnswerTo : Stop → Result Verdict VerifyRefusal → Type 0
+IsAnswerTo (StopsRejected k) answer = answer ≡ Ok (Rejected k)
+IsAnswerTo (StopsRefused r) answer = answer ≡ Err (Refused r)
+IsAnswerTo StopsNoMemory answer = answer ≡ Err OutOfMemory
+
+-- a goal that is accepted in so many steps has a spelling of them, and is derivable
 abbrev pub IsRight : Formula → Verdict → Type 0
-IsRight f (Accepted n) = HasSpelling f n × IsDerivable f
-IsRight f (RejectedAt k) = ComesTo f k
-
--- a tick for each step that fits
-abbrev pub HasTicked : ℕ → ℕ → Verdict → Type 0
-HasTicked before now (Accepted n) = now ≡ before + n
-HasTicked before now (RejectedAt k) = now + 1 ≡ before + k
+IsRight goal (Accepted n) = HasSpelling goal n × IsDerivable goal
+IsRight goal (Rejected k) = Unit {0}
 
 -- why there is no verdict, by the counts of faults before and now
 abbrev pub HasReason : ℕ → ℕ → VerifyRefusal → Type 0
-HasReason before now (RefusedAt r) = (now ≡ before) × IsPlainRefusal r
+HasReason before now (Refused r) = now ≡ before
 HasReason before now ReadFault = Rose before now
-HasReason before now NoMemory = now ≡ before
-
--- what is told where the check stopped
-abbrev pub IsAnswerTo : Stop → Result Verdict VerifyRefusal → Type 0
-IsAnswerTo (Rejected k) answer = answer ≡ Ok (RejectedAt k)
-IsAnswerTo (Refused r) answer = answer ≡ Err (RefusedAt r)
-IsAnswerTo OutOfMemory answer = answer ≡ Err NoMemory
-
--- an accepted source was read to its end
-abbrev pub EndsAt : Option (List ℕ) → Verdict → Type 0
-EndsAt left (Accepted n) = IsAtEnd left
-EndsAt left (RejectedAt k) = Unit {0}
+HasReason before now OutOfMemory = now ≡ before

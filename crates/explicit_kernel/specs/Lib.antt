@@ -4,3 +4,5 @@ pub mod Naming
 pub mod Pending
 pub mod Progress
 pub mod Check
+pub mod Judgment
+pub mod JudgmentLaws

@@ -1,7 +1,8 @@
 //! The determinate kernel: it checks explicit certificates step by step against the rules.
 #![tactic(auto)]
 
-mod lines;
+mod check;
+pub mod laws;
 mod pending;
 mod play;
 mod shared;

@@ -3,7 +3,7 @@ ghost use Rattle.std.specs.Prelude.{◌≡◌, ◌↔◌, List, ◌+◌, ◌-◌
 ghost use Rattle.lkf_rules.specs.Sequent.{Levelled};
 ghost use Rattle.lkf_rules.specs.Play.{PlaysOne, start_of};
 ghost use Rattle.explicit_kernel.specs.Pending.{AreLow};
-ghost use Rattle.explicit_kernel.specs.Progress.{Advances};
+ghost use Rattle.explicit_kernel.specs.Progress.{Follows, IsUnfit};
 
 use crate::pending::Pending;
 use fpc_base::outside::OutOfMemory;
@@ -43,7 +43,7 @@ impl Play {
     ) -> Result<(), StepRefusal>
         requires low { AreLow self.old.fitted self.old.pending }
         requires few { self.old.fitted < 2 ^ 32 }
-        ensures fits { OnOk result (Advances self.old.pending self.old.fitted self.new.pending self.new.fitted) }
+        ensures fits { OnOk result (PlaysOne self.old.pending step.now self.new.pending) }
         ensures low { OnOk result (AreLow self.new.fitted self.new.pending) }
         ensures one { OnOk result (self.new.fitted ≡ self.old.fitted + 1) }
         ensures ticks { OnOk result (steps.new ≡ steps.old + 1) }
@@ -58,6 +58,28 @@ impl Play {
                 Ok(())
             }
             Err(refusal) => Err(refusal),
+        }
+    }
+
+    /// Plays the step, if there is one, and counts it where it fits.
+    pub(crate) fn follow<L: Ledger>(
+        &mut self,
+        alloc: Global,
+        step: Option<Step>,
+        steps: &mut Steps<L>,
+    ) -> Result<(), StepRefusal>
+        requires low { AreLow self.old.fitted self.old.pending }
+        requires few { self.old.fitted < 2 ^ 32 }
+        ensures follows { OnOk result (Follows step self.old self.new) }
+        ensures low { OnOk result (AreLow self.new.fitted self.new.pending) }
+        ensures one { self.new.fitted ≤ self.old.fitted + 1 }
+        ensures unfit { result ≡ Err StepRefusal.DoesNotFit → IsUnfit step self.old }
+        ensures none { OnErr result (self.new.fitted ≡ self.old.fitted) }
+        ensures ticks { steps.new + self.old.fitted ≡ steps.old + self.new.fitted }
+    {
+        match step {
+            Some(step) => self.advance(alloc, &step, steps),
+            None => Ok(()),
         }
     }
 }

@@ -1,33 +1,79 @@
-use Rattle.std.proofs.Common.{refl, arith}
-use Rattle.lkf_rules.specs.Play.{start_of}
-use Rattle.explicit_kernel.proofs.Advancing.{Advances-more, Advances-start}
-use Rattle.explicit_kernel.proofs.Judging.{IsRight-accepted, IsRight-stopped}
+use Rattle.std.proofs.Common.{◌++◌, [], take, length, refl, sym, subst, ap, arith}
+use Rattle.std.proofs.lemmas.List.{length-append, length-take-le}
+use Rattle.fpc_base.specs.Outside.{TakesFront}
+use Rattle.fpc_base.proofs.Moves.{TakesFront-nothing, TakesFront-more}
+use Rattle.explicit_kernel.proofs.Judging.{judged-memory, judged-fault, judged-accepted, judged-unfinished, judged-stop}
 use Rattle.explicit_kernel.proofs.verify.verify_through.Goals as goal
 
-pub loop-check-init : goal.loop-check-init
-loop-check-init g c = (
-  c.in-Ok.ensures.under_way,
-  Advances-start (start_of c.args.goal.now) c.in-Ok.check.play.pending c.in-Ok.check.play.fitted c.in-Ok.ensures.pending c.in-Ok.ensures.fitted,
+pub returns-in-Err-clause-judged : goal.returns-in-Err-clause-judged
+returns-in-Err-clause-judged g c = judged-memory c.args.names.now c.args.goal.now (g.S.Source.left c.args.source.now) c.args.steps.now c.args.steps.now
+
+pub loop-names-init : goal.loop-names-init
+loop-names-init g c = (
+  ([], (TakesFront-nothing (g.S.Source.left c.args.source.now), (c.in-Ok.ensures.come c.args.names.now, omega arith))),
+  λ k text h. h,
   omega (arith, c.in-Ok.ensures.fitted),
   refl,
   refl,
-  omega arith,
 )
 
-pub returns-in-Ok-finished-clause-verdict : goal.returns-in-Ok-finished-clause-verdict
-returns-in-Ok-finished-clause-verdict g c =
-    IsRight-accepted c.args.goal.now c.loop-check.check.play.pending c.loop-check.check.play.fitted c.in-Ok-finished.verdict c.requires.closed c.loop-check.invariant.1 c.in-Ok-finished.ensures.verdict
+pub returns-in-Ok-finish-clause-judged : goal.returns-in-Ok-finish-clause-judged
+returns-in-Ok-finish-clause-judged g c =
+    let r = c.loop-names.invariant.0 in
+    judged-accepted c.loop-names.names c.args.goal.now (g.S.Source.left c.args.source.now) (g.S.Source.left c.loop-names.source) (g.S.Source.left c.read.new.self) c.args.steps.now c.loop-names.steps r.0 c.loop-names.check r.1.0 r.1.1.0
+    c.loop-names.invariant.2 (c.in-Ok-eq0.ensures.end c.in-Ok-eq0.field-0-test)
+    (subst (λ n. TakesFront (g.S.Source.left c.loop-names.source) (take n c.read.new.buf) (g.S.Source.left c.read.new.self)) c.in-Ok-eq0.field-0-test c.in-Ok-eq0.ensures.taken)
+    c.in-Ok-finish.steps (c.in-Ok-finish.ensures c.loop-names.names c.args.goal.now r.0 c.distinct.ensures r.1.1.0)
 
-pub loop-check-preserved : goal.loop-check-preserved
-loop-check-preserved g c = (
-  c.in-Ok-take_piece.ensures.ok,
-  Advances-more (start_of c.args.goal.now) c.loop-check.check.play.pending c.take_piece.new.self.play.pending 0 c.loop-check.check.play.fitted c.take_piece.new.self.play.fitted c.loop-check.invariant.1 c.in-Ok-take_piece.ensures.played,
-  omega (arith, c.in-Ok-take_piece.ensures.ticks, c.loop-check.invariant.2),
-  cc (c.in-Ok-read.ensures.ok_count, c.loop-check.invariant.3),
-  cc (c.in-Ok-read.ensures.content, c.loop-check.invariant.4),
-  omega (arith, c.in-Ok-read.ensures.calls, c.in-Ok-read.n-test, c.in-Ok-take_piece.ensures.at, c.split_at.ensures.front_len, c.loop-check.invariant.5),
-)
+pub returns-in-Err-finish-clause-judged : goal.returns-in-Err-finish-clause-judged
+returns-in-Err-finish-clause-judged g c =
+    let r = c.loop-names.invariant.0 in
+    judged-unfinished c.loop-names.names c.args.goal.now (g.S.Source.left c.args.source.now) (g.S.Source.left c.loop-names.source) (g.S.Source.left c.read.new.self) c.args.steps.now c.loop-names.steps r.0 c.loop-names.check r.1.0 r.1.1.0
+    c.loop-names.invariant.2 (c.in-Ok-eq0.ensures.end c.in-Ok-eq0.field-0-test)
+    (subst (λ n. TakesFront (g.S.Source.left c.loop-names.source) (take n c.read.new.buf) (g.S.Source.left c.read.new.self)) c.in-Ok-eq0.field-0-test c.in-Ok-eq0.ensures.taken)
+    c.in-Err-finish.stop c.answer_to.result (c.in-Err-finish.ensures c.loop-names.names c.args.goal.now r.0 c.distinct.ensures r.1.1.0) c.answer_to.ensures
 
-pub returns-in-Err-take_piece-clause-verdict : goal.returns-in-Err-take_piece-clause-verdict
-returns-in-Err-take_piece-clause-verdict g c =
-    IsRight-stopped c.args.goal.now c.loop-check.check c.take_piece.new.self c.in-Err-take_piece.stop c.answer_to.result c.answer_to.ensures c.in-Err-take_piece.ensures.stopped c.loop-check.invariant.1
+pub loop-names-smaller : goal.loop-names-smaller
+loop-names-smaller g c =
+    let r = c.loop-names.invariant.0 in
+    let come = c.in-Ok-take_piece.ensures.come c.args.goal.now r.0 r.1.1.0 in
+    let l = length-append r.0 c.split_at.result.0.now in
+    let old_place = r.1.1.0.read.place in
+    let new_place = come.read.place in
+    let short = come.short in
+    omega (arith, l, old_place, new_place, short, c.split_at.ensures.front_len, c.in-Ok-read.n-test)
+
+pub loop-names-preserved : goal.loop-names-preserved
+loop-names-preserved g c =
+    let r = c.loop-names.invariant.0 in
+    let l = length-append r.0 c.split_at.result.0.now in
+    let few = r.1.1.1 in
+    (
+      (
+        r.0 ++ c.split_at.result.0.now,
+        (
+          TakesFront-more (g.S.Source.left c.args.source.now) (g.S.Source.left c.loop-names.source) (g.S.Source.left c.read.new.self) r.0 c.split_at.result.0.now r.1.0
+          (subst (λ bs. TakesFront (g.S.Source.left c.loop-names.source) bs (g.S.Source.left c.read.new.self)) (sym c.split_at.ensures.front) c.in-Ok-read.ensures.taken),
+          (c.in-Ok-take_piece.ensures.come c.args.goal.now r.0 r.1.1.0, omega (arith, c.in-Ok-read.ensures.calls, l, few, c.split_at.ensures.front_len, c.in-Ok-read.n-test)),
+        ),
+      ),
+      λ k text h. c.in-Ok-take_piece.ensures.grows k text (c.loop-names.invariant.1 k text h),
+      omega (arith, c.in-Ok-take_piece.ensures.ticks, c.loop-names.invariant.2),
+      cc (c.in-Ok-read.ensures.ok_count, c.loop-names.invariant.3),
+      cc (c.in-Ok-read.ensures.content, c.loop-names.invariant.4),
+    )
+
+pub returns-in-Err-take_piece-clause-judged : goal.returns-in-Err-take_piece-clause-judged
+returns-in-Err-take_piece-clause-judged g c =
+    let r = c.loop-names.invariant.0 in
+    judged-stop c.take_piece.new.names c.args.goal.now (g.S.Source.left c.args.source.now) (g.S.Source.left c.loop-names.source) (g.S.Source.left c.read.new.self) c.args.steps.now c.take_piece.new.steps r.0 c.split_at.result.0.now
+    c.take_piece.new.self c.in-Err-take_piece.stop c.answer_to-in-Err-take_piece.result r.1.0
+    (subst (λ bs. TakesFront (g.S.Source.left c.loop-names.source) bs (g.S.Source.left c.read.new.self)) (sym c.split_at.ensures.front) c.in-Ok-read.ensures.taken)
+    (omega (arith, c.split_at.ensures.front_len, c.in-Ok-read.ensures.within, c.read.auto.buf, c.loop-names.auto.buffer, c.requires.buffer)) (omega (arith, c.in-Err-take_piece.ensures.ticks, c.loop-names.invariant.2))
+    (c.in-Err-take_piece.ensures.stopped c.args.goal.now r.0 r.1.1.0) c.answer_to-in-Err-take_piece.ensures
+
+pub returns-in-Err-read-clause-judged : goal.returns-in-Err-read-clause-judged
+returns-in-Err-read-clause-judged g c =
+    let r = c.loop-names.invariant.0 in
+    judged-fault c.loop-names.names c.args.goal.now (g.S.Source.left c.args.source.now) (g.S.Source.left c.loop-names.source) (g.S.Source.left c.read.new.self) c.args.steps.now c.loop-names.steps r.0 c.loop-names.check r.1.0 r.1.1.0
+    c.loop-names.invariant.2 c.in-Err-read.ensures.none_taken

@@ -1,17 +1,16 @@
-use Rattle.std.proofs.Common.{◌≡◌, ◌≤◌, ◌+◌, ◌-◌}
-use Rattle.lkf_rules.specs.Play.{start_of}
-use Rattle.explicit_kernel.specs.Progress.{Advances}
-use Rattle.explicit_kernel.specs.Check.{IsUnderWay}
+use Rattle.std.proofs.Common.{◌≡◌, ℕ, ◌≤◌, ◌+◌, ◌-◌, List, length}
+use Rattle.fpc_base.specs.Outside.{TakesFront}
+use Rattle.fpc_terms.specs.Name.{Grows}
+use Rattle.explicit_kernel.specs.Check.{HasCome}
 use Rattle.explicit_kernel.proofs.verify.verify_through.Given as goal
 
-abbrev pub invariant-loop-check : goal.invariant-loop-check
-invariant-loop-check g l =
-    IsUnderWay l.check
-    × Advances (start_of l.goal) 0 l.check.play.pending l.check.play.fitted
+abbrev pub invariant-loop-names : goal.invariant-loop-names
+invariant-loop-names g l =
+    ((front : List ℕ) × (TakesFront (g.S.Source.left l.initial.source) front (g.S.Source.left l.source) × (HasCome l.names l.goal front l.check × (g.S.Source.calls l.source ≤ g.S.Source.calls l.initial.source + length front))))
+    × Grows l.initial.names l.names
     × (l.steps ≡ l.initial.steps + l.check.play.fitted)
     × (g.S.Source.faults l.source ≡ g.S.Source.faults l.initial.source)
     × (g.S.Source.content l.source ≡ g.S.Source.content l.initial.source)
-    × (g.S.Source.calls l.source ≤ g.S.Source.calls l.initial.source + l.check.at)
 
-abbrev pub decreases-loop-check : goal.decreases-loop-check
-decreases-loop-check g l = 67108865 - l.check.at
+abbrev pub decreases-loop-names : goal.decreases-loop-names
+decreases-loop-names g l = 67108865 - l.check.reader.at

@@ -1,9 +1,5 @@
-use Rattle.std.proofs.Common.{[], ◌∷◌, arith}
-use Rattle.lkf_rules.proofs.Play.{Plays-one, levels-plays}
+use Rattle.lkf_rules.proofs.Play.{levels-plays}
 use Rattle.explicit_kernel.proofs.play.Play.advance.Goals as goal
-
-pub returns-in-Ok-clause-fits : goal.returns-in-Ok-clause-fits
-returns-in-Ok-clause-fits g c = (c.args.step.now ∷ [], Plays-one c.args.self.now.pending c.play.new.self c.args.step.now c.in-Ok.ensures.fits, omega arith)
 
 pub returns-in-Ok-clause-low : goal.returns-in-Ok-clause-low
 returns-in-Ok-clause-low g c = levels-plays c.args.self.now.fitted c.args.self.now.pending c.play.new.self c.args.step.now c.requires.low c.in-Ok.ensures.fits

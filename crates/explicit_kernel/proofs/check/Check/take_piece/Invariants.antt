@@ -1,0 +1,15 @@
+use Rattle.std.proofs.Common.{ℕ, ◌≤◌, ◌-◌, ◌++◌, List, length, take}
+use Rattle.fpc_terms.specs.Name.{Grows}
+use Rattle.polarised_formulas.specs.Formula.{Formula}
+use Rattle.explicit_kernel.specs.Check.{HasCome, HasTicks}
+use Rattle.explicit_kernel.proofs.check.Check.take_piece.Given as goal
+
+abbrev pub invariant-loop-fed : goal.invariant-loop-fed
+invariant-loop-fed g l =
+    Grows l.initial.names l.names
+    × (l.fed ≤ length l.piece)
+    × ((goal : Formula) (before : List ℕ) → HasCome l.initial.names goal before l.initial.self → HasCome l.names goal (before ++ take l.fed l.piece) l.self)
+    × HasTicks l.initial.self l.self l.initial.steps l.steps
+
+abbrev pub decreases-loop-fed : goal.decreases-loop-fed
+decreases-loop-fed g l = length l.piece - l.fed

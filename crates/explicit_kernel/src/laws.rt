@@ -1,0 +1,26 @@
+//! Laws of the judgment of a certificate. The functions do nothing: their contracts say the laws.
+ghost use Rattle.explicit_kernel.specs.JudgmentLaws.{AcceptedHasNodes, AcceptedIsSpelled, JudgmentStays, RefusedFirst, RejectedAtLine, RejectedBegins};
+
+/// A certificate for a closed goal is accepted with so many steps exactly where it is the text of so many, within the limits, which spell a derivation of the goal.
+/// The derivation has as many nodes.
+pub fn acceptance()
+    ensures spelled { AcceptedIsSpelled }
+    ensures nodes { AcceptedHasNodes }
+{}
+
+/// A certificate is rejected exactly at the first line that shows that its steps spell nothing: that of a step that does not fit, or the last one where a sequent
+/// is left. The bytes up to and with the end of this line begin a certificate.
+pub fn rejection()
+    ensures line { RejectedAtLine }
+    ensures begins { RejectedBegins }
+{}
+
+/// A certificate is refused exactly where its bytes are, before a line of it is rejected. The steps before that fit are counted.
+pub fn refusal()
+    ensures { RefusedFirst }
+{}
+
+/// Bytes that show a judgment keep it whatever comes behind them.
+pub fn first_judgment()
+    ensures { JudgmentStays }
+{}
