@@ -1,12 +1,22 @@
 -- What an answer's cause is after a file was opened or read.
-use Rattle.std.specs.Prelude.{◌≡◌, ◌≢◌, ℕ, false, List, Option, Result, Ok, Err, OnOk, is_err}
-use Rattle.std.proofs.Common.{subst, sym}
-use Rattle.fpc_base.specs.Outside.{Content, missing, IsAtStartOf}
-use Rattle.polarised_formulas.specs.Formula.{Formula}
+use Rattle.std.specs.Prelude.{◌≡◌, ◌≢◌, ℕ, false, List, [], ◌++◌, length, Option, Some, None, Result, Ok, Err, OnOk, IfOk, IfErr, is_err}
+use Rattle.std.proofs.Common.{refl, subst, sym, ap, ◌∙◌, append-nil, inl, inr}
+use Rattle.fpc_base.specs.declared.refusal.Refusal.{Refusal}
+use Rattle.fpc_base.specs.Outside.{Content, untold, missing, holds, IsAtStartOf, IsAtEnd, TakesFront, Rose}
+use Rattle.fpc_terms.specs.Name.{Agrees, AreDifferent, Grows}
+use Rattle.polarised_formulas.specs.Formula.{Formula, IsClosed, IsLkf}
+use Rattle.polarised_formulas.proofs.Standing.{Agrees-grows}
+use Rattle.explicit_kernel.specs.Judgment.{Judgment, accepted, rejected, refused, judged, at_end, course_of, judgment}
+use Rattle.explicit_kernel.specs.Check.{IsJudged, IsShown, IsRight, HasReason}
+use Rattle.explicit_kernel.specs.declared.verify.Verdict.{Verdict}
+use Rattle.explicit_kernel.specs.declared.verify.Verdict.TheVariants.{Accepted as AcceptedBy, Rejected as RejectedAt}
+use Rattle.explicit_kernel.specs.declared.verify.VerifyRefusal.{VerifyRefusal}
+use Rattle.explicit_kernel.specs.declared.verify.VerifyRefusal.TheVariants.{Refused as RefusedAt, ReadFault as Fault, OutOfMemory as NoMemory}
+use Rattle.explicit_kernel.proofs.JudgmentLaws.{judgment_stays}
 use Rattle.fpc_cli.specs.declared.answer.Answer.{Answer}
 use Rattle.fpc_cli.specs.declared.answer.Role.TheVariants.{Explicit}
 use Rattle.fpc_cli.specs.Command.{verify}
-use Rattle.fpc_cli.specs.Run.{HasFilesTo, SpellsGoal, IsCaused}
+use Rattle.fpc_cli.specs.Run.{HasFilesTo, MayHold, SpellsGoal, left_of, IsVerified, IsAccepted, IsRejected, IsRefused, IsCaused, IsAnswerOf}
 
 pub from-ok : {T E P : Type 0} (r : Result T E) → is_err r ≡ false → OnOk r P → P
 from-ok (Ok t) e p = p
@@ -16,15 +26,71 @@ from-ok (Err x) e p = let n : ⊥ = cc in absurd n
 pub opened-there : (c : Content) (left : Option (List ℕ)) → IsAtStartOf c left → c ≢ missing
 opened-there c left h e = subst (λ (d : Content). IsAtStartOf d left) e h
 
--- the cause is the same for the contents and counts before, which are equal
-pub moved : (C D : List ℕ → Content) (b d n : ℕ) (p e : List ℕ) (goal : Formula) (a : Answer) → C ≡ D → b ≡ d
-    → (SpellsGoal (C p) goal → HasFilesTo Explicit (verify p e) C → IsCaused (verify p e) C b n a) → SpellsGoal (D p) goal → HasFilesTo Explicit (verify p e) D → IsCaused (verify p e) D d n a
-moved C D b d n p e goal a same count h =
-    subst (λ (x : ℕ). SpellsGoal (D p) goal → HasFilesTo Explicit (verify p e) D → IsCaused (verify p e) D x n a) count
-    (subst (λ (X : List ℕ → Content). SpellsGoal (X p) goal → HasFilesTo Explicit (verify p e) X → IsCaused (verify p e) X b n a) same h)
+-- a goal stays spelled as the table grows
+pub SpellsGoal-grows : (known names : List (List ℕ)) (c : Content) (goal : Formula) → Grows known names → SpellsGoal known c goal → SpellsGoal names c goal
+SpellsGoal-grows known names c goal grows h = record {
+  bytes = h.bytes;
+  held = h.held;
+  size = h.size;
+  read = record { written = h.read.written; reads = h.read.reads; in_logic = h.read.in_logic; meant = λ number agrees. h.read.meant number (Agrees-grows known names number grows agrees) };
+}
 
-pub moved-problem : (C D : List ℕ → Content) (b d n : ℕ) (p e : List ℕ) (goal : Formula) (a : Answer) → C ≡ D → b ≡ d
-    → (SpellsGoal (C p) goal → C p ≢ missing → IsCaused (verify p e) C b n a) → SpellsGoal (D p) goal → D p ≢ missing → IsCaused (verify p e) D d n a
-moved-problem C D b d n p e goal a same count h =
-    subst (λ (x : ℕ). SpellsGoal (D p) goal → D p ≢ missing → IsCaused (verify p e) D x n a) count
-    (subst (λ (X : List ℕ → Content). SpellsGoal (X p) goal → X p ≢ missing → IsCaused (verify p e) X b n a) same h)
+-- the bytes that were taken from an open file, and those that are left, are those that it holds
+held-so : (c : Content) (old new : Option (List ℕ)) (taken : List ℕ) → IsAtStartOf c old → TakesFront old taken new → MayHold c (taken ++ left_of new)
+held-so untold old new taken h t = tt
+held-so missing old new taken h t = absurd h
+held-so (holds b) old new taken h t = by new (subst (λ o. TakesFront o taken new) h t)
+  where
+    by : (n : Option (List ℕ)) → TakesFront (Some b) taken n → MayHold (holds b) (taken ++ left_of n)
+    by None k = absurd k
+    by (Some left) k = k
+
+-- at the end nothing is left
+nothing-left : (new : Option (List ℕ)) → IsAtEnd new → left_of new ≡ []
+nothing-left None h = refl
+nothing-left (Some left) h = h
+
+module _ (names : List (List ℕ)) (differ : AreDifferent names) (goal : Formula) (problem explicit : Content) (spelled : SpellsGoal names problem goal) (closed : IsClosed goal) (lkf : IsLkf goal) (old new : Option (List ℕ)) (before now : ℕ) (start : IsAtStartOf explicit old) where
+  verified-so : (answer : Result Verdict VerifyRefusal) (h : IsJudged names goal old new before now answer) (P : ℕ → Judgment → Type 0)
+      → ((number : List ℕ → ℕ) → Agrees number names → P (length h.bytes) (judgment number goal (h.bytes ++ left_of new))) → IsVerified problem explicit new P
+  verified-so answer h P so = record {
+    names = names; different = differ; goal = goal; spelled = spelled; closed = closed; lkf = lkf; taken = h.bytes;
+    held = held-so explicit old new h.bytes start h.taken; judged = so;
+  }
+
+  whole : (bytes : List ℕ) (number : List ℕ → ℕ) (j : Judgment) → IsAtEnd new → judgment number goal bytes ≡ j → judgment number goal (bytes ++ left_of new) ≡ j
+  whole bytes number j e h = ap (judgment number goal) (ap (λ l. bytes ++ l) (nothing-left new e) ∙ append-nil bytes) ∙ h
+
+  pub is-accepted : (n : ℕ) → IsJudged names goal old new before now (Ok (AcceptedBy n)) → IsVerified problem explicit new (IsAccepted n)
+  is-accepted n h = verified-so (Ok (AcceptedBy n)) h (IsAccepted n) (λ number agrees. let s = h.shown number agrees in whole h.bytes number (accepted n) s.1 s.0)
+
+  pub is-rejected : (k : ℕ) → IsJudged names goal old new before now (Ok (RejectedAt k)) → IsVerified problem explicit new (IsRejected k)
+  is-rejected k h = verified-so (Ok (RejectedAt k)) h (IsRejected k) (λ number agrees. let s = h.shown number agrees in (s.0, (judgment_stays number goal h.bytes (left_of new) (rejected k s.0) s.1.0, s.1.1)))
+
+  pub is-refused : (r : Refusal) → IsJudged names goal old new before now (Err (RefusedAt r)) → IsVerified problem explicit new (IsRefused r)
+  is-refused r h = verified-so (Err (RefusedAt r)) h (IsRefused r) (λ number agrees.
+      let s = h.shown number agrees in
+      (s.0, (elim s.1.1 [
+        | inl end ↦ whole h.bytes number (refused r s.0) end s.1.0
+        | inr shown ↦ judgment_stays number goal h.bytes (left_of new) (refused r s.0) shown
+      ], s.1.2)))
+
+-- the cause of an answer is that of the verdict
+pub caused-so : (known names : List (List ℕ)) → Grows known names → AreDifferent names → (goal : Formula) (p e : List ℕ) (content : List ℕ → Content) → SpellsGoal known (content p) goal → IsClosed goal → IsLkf goal
+    → (old new : Option (List ℕ)) → IsAtStartOf (content e) old → (b n before now : ℕ) (verdict : Result Verdict VerifyRefusal) (answer : Answer) → IsAnswerOf verdict answer → IsJudged names goal old new before now verdict
+    → IfOk verdict (IsRight goal) → OnOk verdict (n ≡ b) → IfErr verdict (HasReason b n) → HasFilesTo Explicit (verify p e) content → IsCaused (verify p e) content new b n answer
+caused-so known names grows differ goal p e content spelled closed lkf old new start b n before now (Ok (AcceptedBy k)) answer is h right same reason there =
+    let s = SpellsGoal-grows known names (content p) goal grows spelled in
+    rw is (there, same, is-accepted names differ goal (content p) (content e) s closed lkf old new before now start k h, (names, (goal, (s, closed, lkf, right.0, right.1))))
+caused-so known names grows differ goal p e content spelled closed lkf old new start b n before now (Ok (RejectedAt k)) answer is h right same reason there =
+    let s = SpellsGoal-grows known names (content p) goal grows spelled in
+    rw is (there, same, is-rejected names differ goal (content p) (content e) s closed lkf old new before now start k h)
+caused-so known names grows differ goal p e content spelled closed lkf old new start b n before now (Err (RefusedAt r)) answer is h right same reason there =
+    let s = SpellsGoal-grows known names (content p) goal grows spelled in
+    rw is (there, reason, is-refused names differ goal (content p) (content e) s closed lkf old new before now start r h)
+caused-so known names grows differ goal p e content spelled closed lkf old new start b n before now (Err Fault) answer is h right same reason there = rw is ((λ u. cc), inl reason)
+caused-so known names grows differ goal p e content spelled closed lkf old new start b n before now (Err NoMemory) answer is h right same reason there = rw is tt
+
+-- what is said of contents and a count is said of those that are equal
+pub moved : (C D : List ℕ → Content) (b d : ℕ) (T : (List ℕ → Content) → ℕ → Type 0) → C ≡ D → b ≡ d → T C b → T D d
+moved C D b d T same count h = subst (λ (x : ℕ). T D x) count (subst (λ (X : List ℕ → Content). T X b) same h)

@@ -1,19 +1,20 @@
 -- Why the program answers as it does, and what it writes.
-use Rattle.std.specs.Prelude.{◌≡◌, ◌≢◌, ◌⊎◌, ℕ, ◌<◌, ◌≤◌, List, [], length, Option, Result, Ok, Err}
+use Rattle.std.specs.Prelude.{◌≡◌, ◌≢◌, ◌⊎◌, ℕ, ◌+◌, ◌<◌, ◌≤◌, List, [], ◌++◌, length, Option, Some, None, Result, Ok, Err}
 use Rattle.fpc_base.specs.Lexeme.{items_of}
 use Rattle.fpc_base.specs.Reading.{RefusesAll}
 use Rattle.fpc_base.specs.Outside.{Content, untold, missing, holds, Rose, Adds, AddsPrefix}
 use Rattle.fpc_base.specs.declared.refusal.Refusal.{Refusal}
 use Rattle.fpc_base.specs.declared.refusal.Code.TheVariants.{TooLarge}
-use Rattle.fpc_terms.specs.Name.{AreDifferent}
+use Rattle.fpc_terms.specs.Name.{Agrees, AreDifferent}
 use Rattle.polarised_formulas.specs.declared.logic.Logic.TheVariants.{Lkf}
 use Rattle.polarised_formulas.specs.Formula.{Formula, IsClosed, IsLkf}
 use Rattle.polarised_formulas.specs.Written.{IsProblem}
 use Rattle.polarised_formulas.specs.Place.{ProblemLimits}
 use Rattle.polarised_formulas.specs.ReadProblem.{ProblemIsRead}
 use Rattle.lkf_rules.specs.Derivation.{IsDerivable}
-use Rattle.explicit_kernel.specs.Progress.{HasSpelling, ComesTo}
-use Rattle.explicit_kernel.specs.Check.{IsPlainRefusal}
+use Rattle.explicit_kernel.specs.Judgment.{Judgment, accepted, rejected, refused, judgment}
+use Rattle.explicit_kernel.specs.Progress.{HasSpelling}
+use Rattle.explicit_kernel.specs.Check.{most_ahead}
 use Rattle.explicit_kernel.specs.declared.verify.Verdict.{Verdict}
 use Rattle.explicit_kernel.specs.declared.verify.Verdict.TheVariants.{Accepted as AcceptedBy, Rejected as RejectedAt}
 use Rattle.explicit_kernel.specs.declared.verify.VerifyRefusal.{VerifyRefusal}
@@ -31,11 +32,6 @@ HasFilesTo Problem (verify problem explicit) content = content problem ≢ missi
 HasFilesTo Explicit (verify problem explicit) content = (content problem ≢ missing) × (content explicit ≢ missing)
 HasFilesTo _ _ content = ⊥
 
--- the first of the files that isn't there is told as missing
-abbrev pub MissesOne : Asked → (List ℕ → Content) → Type 0
-MissesOne (verify problem explicit) content = (content problem ≡ missing) ⊎ ((content problem ≢ missing) × (content explicit ≡ missing))
-MissesOne usage content = ⊥
-
 -- what is told of a file doesn't speak against these bytes
 abbrev pub MayHold : Content → List ℕ → Type 0
 MayHold untold bytes = Unit {0}
@@ -48,14 +44,56 @@ MayBeTooLarge untold = Unit {0}
 MayBeTooLarge missing = ⊥
 MayBeTooLarge (holds b) = 16777216 < length b
 
--- the file's bytes are a problem of LKF with this goal, whose names have numbers in some table of different names
-pub record SpellsGoal (content : Content) (goal : Formula) : Type 0 where
+-- the file's bytes are a problem of LKF with this goal, by the numbers of names in a table
+pub record SpellsGoal (names : List (List ℕ)) (content : Content) (goal : Formula) : Type 0 where
   pub bytes : List ℕ
-  pub names : List (List ℕ)
   pub held : MayHold content bytes
-  pub different : AreDifferent names
   pub size : length bytes ≤ 16777216
   pub read : ProblemIsRead (items_of bytes) names Lkf goal
+
+-- the file may hold a problem of LKF
+abbrev pub IsGood : Content → Type 0
+IsGood content = (names : List (List ℕ)) × ((goal : Formula) × SpellsGoal names content goal)
+
+-- the first of the files that isn't good is told as missing
+abbrev pub MissesOne : Asked → (List ℕ → Content) → Type 0
+MissesOne (verify problem explicit) content = (content problem ≡ missing) ⊎ (IsGood (content problem) × (content explicit ≡ missing))
+MissesOne usage content = ⊥
+
+-- the bytes that are left of a file, where it tells them
+abbrev pub left_of : Option (List ℕ) → List ℕ
+left_of None = []
+left_of (Some left) = left
+
+-- Some bytes were taken of the certificate's file. By each numbering that agrees with a table of different names, the problem's file spells a goal, which is closed and of LKF, and
+-- what was taken and the judgment of the certificate for the goal are so.
+pub record IsVerified (problem explicit : Content) (left : Option (List ℕ)) (P : ℕ → Judgment → Type 0) : Type 0 where
+  pub names : List (List ℕ)
+  pub different : AreDifferent names
+  pub goal : Formula
+  pub spelled : SpellsGoal names problem goal
+  pub closed : IsClosed goal
+  pub lkf : IsLkf goal
+  pub taken : List ℕ
+  pub held : MayHold explicit (taken ++ left_of left)
+  pub judged : (number : List ℕ → ℕ) → Agrees number names → P (length taken) (judgment number goal (taken ++ left_of left))
+
+-- the certificate is accepted
+abbrev pub IsAccepted : ℕ → ℕ → Judgment → Type 0
+IsAccepted n taken j = j ≡ accepted n
+
+-- the certificate is rejected at a step, and not too much was taken behind the place where it lies
+abbrev pub IsRejected : ℕ → ℕ → Judgment → Type 0
+IsRejected k taken j = (place : ℕ) × ((j ≡ rejected k place) × (taken ≤ place + 1 + most_ahead))
+
+-- the certificate is refused, and not too much was taken behind the place where it lies
+abbrev pub IsRefused : Refusal → ℕ → Judgment → Type 0
+IsRefused r taken j = (fitted : ℕ) × ((j ≡ refused r fitted) × (taken ≤ r.at + 1 + most_ahead))
+
+-- the files of the command have a judgment that is so
+abbrev pub HasJudgment : Asked → (List ℕ → Content) → Option (List ℕ) → (ℕ → Judgment → Type 0) → Type 0
+HasJudgment (verify problem explicit) content left P = IsVerified (content problem) (content explicit) left P
+HasJudgment usage content left P = ⊥
 
 -- why a problem's file is refused: for its size, or by the grammar at the first place where it is no problem's
 abbrev pub IsProblemRefused : Content → Refusal → Type 0
@@ -63,27 +101,25 @@ IsProblemRefused content refusal =
     ((refusal ≡ record { code = TooLarge; at = 16777216 }) × MayBeTooLarge content)
     ⊎ ((bytes : List ℕ) × (MayHold content bytes × (length bytes ≤ 16777216) × RefusesAll IsProblem ProblemLimits (length bytes) [] (items_of bytes) refusal))
 
--- a refusal of a file: of a problem as its grammar tells it, of a certificate as the kernel tells it
-abbrev pub IsRefusalOf : Role → Asked → (List ℕ → Content) → Refusal → Type 0
-IsRefusalOf Problem (verify problem explicit) content refusal = IsProblemRefused (content problem) refusal
-IsRefusalOf Explicit (verify problem explicit) content refusal = IsPlainRefusal refusal
-IsRefusalOf _ _ content refusal = ⊥
+-- a refusal of a file: of a problem as its grammar tells it, of a certificate as it is judged
+abbrev pub IsRefusalOf : Role → Asked → (List ℕ → Content) → Option (List ℕ) → Refusal → Type 0
+IsRefusalOf Problem (verify problem explicit) content left refusal = IsProblemRefused (content problem) refusal
+IsRefusalOf Explicit asked content left refusal = HasJudgment asked content left (IsRefused refusal)
+IsRefusalOf _ _ content left refusal = ⊥
 
--- the file of the problem spells the goal
-abbrev pub HasGoal : Asked → (List ℕ → Content) → Formula → Type 0
-HasGoal (verify problem explicit) content goal = SpellsGoal (content problem) goal
-HasGoal usage content goal = ⊥
+-- some closed goal of LKF has a spelling of so many steps, and is derivable
+abbrev pub IsProved : Asked → (List ℕ → Content) → ℕ → Type 0
+IsProved (verify problem explicit) content n = (names : List (List ℕ)) × ((goal : Formula) × (SpellsGoal names (content problem) goal × IsClosed goal × IsLkf goal × HasSpelling goal n × IsDerivable goal))
+IsProved usage content n = ⊥
 
--- an answer's cause, in what was asked, what is told of the files, and the counts of their faults before and now
-abbrev pub IsCaused : Asked → (List ℕ → Content) → ℕ → ℕ → Answer → Type 0
-IsCaused asked content before now (Accepted n) =
-    HasFilesTo Explicit asked content × (now ≡ before) × ((goal : Formula) × HasGoal asked content goal × IsClosed goal × IsLkf goal × HasSpelling goal n × IsDerivable goal)
-IsCaused asked content before now (Rejected k) =
-    HasFilesTo Explicit asked content × (now ≡ before) × ((goal : Formula) × HasGoal asked content goal × IsClosed goal × IsLkf goal × ComesTo goal k)
-IsCaused asked content before now (Refused role refusal) = HasFilesTo role asked content × (now ≡ before) × IsRefusalOf role asked content refusal
-IsCaused asked content before now Usage = (asked ≡ usage) × (now ≡ before)
-IsCaused asked content before now ReadFault = (asked ≢ usage) × (Rose before now ⊎ MissesOne asked content)
-IsCaused asked content before now OutOfMemory = Unit {0}
+-- An answer's cause, in what was asked, what is told of the files, what is left of the one that is open, and the counts of their faults before and now.
+abbrev pub IsCaused : Asked → (List ℕ → Content) → Option (List ℕ) → ℕ → ℕ → Answer → Type 0
+IsCaused asked content left before now (Accepted n) = HasFilesTo Explicit asked content × (now ≡ before) × HasJudgment asked content left (IsAccepted n) × IsProved asked content n
+IsCaused asked content left before now (Rejected k) = HasFilesTo Explicit asked content × (now ≡ before) × HasJudgment asked content left (IsRejected k)
+IsCaused asked content left before now (Refused role refusal) = HasFilesTo role asked content × (now ≡ before) × IsRefusalOf role asked content left refusal
+IsCaused asked content left before now Usage = (asked ≡ usage) × (now ≡ before)
+IsCaused asked content left before now ReadFault = (asked ≢ usage) × (Rose before now ⊎ MissesOne asked content)
+IsCaused asked content left before now OutOfMemory = Unit {0}
 
 -- the sink took the whole text of the answer, or its count rose and it took a part from the front
 abbrev pub IsWritten : Answer → ℕ → ℕ → ℕ → Option (List ℕ) → Option (List ℕ) → Type 0
@@ -92,9 +128,9 @@ IsWritten answer code before now old new =
     ⊎ ((code ≡ 6) × Rose before now × AddsPrefix old (answer_text answer) new)
 
 -- an answer with its cause was written, and the status tells it
-pub record IsAnswered (asked : Asked) (content : List ℕ → Content) (before now : ℕ) (code : ℕ) (faults faults' : ℕ) (old new : Option (List ℕ)) : Type 0 where
+pub record IsAnswered (asked : Asked) (content : List ℕ → Content) (left : Option (List ℕ)) (before now : ℕ) (code : ℕ) (faults faults' : ℕ) (old new : Option (List ℕ)) : Type 0 where
   pub answer : Answer
-  pub caused : IsCaused asked content before now answer
+  pub caused : IsCaused asked content left before now answer
   pub written : IsWritten answer code faults faults' old new
 
 -- a text was written under a status, or the sink's count rose

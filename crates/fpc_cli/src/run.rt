@@ -1,6 +1,6 @@
 //! All that the program does, over any files and any sink.
 ghost use Rattle.std.specs.Prelude.{◌≡◌, ◌≢◌, ◌≤◌, ◌<◌, ◌⊎◌, List, ℕ, OnOk, IfOk, IfErr};
-ghost use Rattle.fpc_base.specs.Outside.{missing};
+ghost use Rattle.fpc_base.specs.Outside.{missing, IsAtStartOf};
 ghost use Rattle.polarised_formulas.specs.Formula.{IsClosed, IsLkf};
 ghost use Rattle.polarised_formulas.specs.declared.logic.Logic.TheVariants.{Lkf};
 ghost use Rattle.fpc_cli.specs.Command.{asked_by, verify as asked_to_verify};
@@ -34,10 +34,10 @@ fn problem_in<F: Files>(
     ensures logic { IfOk result (λ p. p.logic ≡ Lkf) }
     ensures closed { IfOk result (λ p. IsClosed p.goal) }
     ensures lkf { IfOk result (λ p. IsLkf p.goal) }
-    ensures spelled { IfOk result (λ p. SpellsGoal (F.content files.old name.now) p.goal) }
+    ensures spelled { IfOk result (λ p. SpellsGoal names.new (F.content files.old name.now) p.goal) }
     ensures there { OnOk result (F.content files.old name.now ≢ missing) }
     ensures count { OnOk result (F.faults files.new ≡ F.faults files.old) }
-    ensures caused { IfErr result (λ a. (explicit : List ℕ) → IsCaused (asked_to_verify name.now explicit) (F.content files.old) (F.faults files.old) (F.faults files.new) a) }
+    ensures caused { IfErr result (λ a. (explicit : List ℕ) → IsCaused (asked_to_verify name.now explicit) (F.content files.old) (F.left files.new) (F.faults files.old) (F.faults files.new) a) }
     ensures never_falls { F.faults files.old ≤ F.faults files.new }
     ensures content { F.content files.new ≡ F.content files.old }
 {
@@ -101,12 +101,15 @@ fn judged<F: Files, L: Ledger>(
     requires name { blank.name ≡ L.name }
     requires parts { blank.parts ≡ L.parts }
     requires one { 0 < L.parts }
-    ensures caused { (p e : List ℕ) → SpellsGoal (F.content files.old p) problem.now.goal → HasFilesTo Role.Explicit (asked_to_verify p e) (F.content files.old) → IsCaused (asked_to_verify p e) (F.content files.old) (F.faults files.old) (F.faults files.new) result }
+    ensures caused { (p e : List ℕ) → SpellsGoal names.old (F.content files.old p) problem.now.goal → HasFilesTo Role.Explicit (asked_to_verify p e) (F.content files.old) → IsAtStartOf (F.content files.old e) (F.left files.old)
+        → IsCaused (asked_to_verify p e) (F.content files.old) (F.left files.new) (F.faults files.old) (F.faults files.new) result }
     ensures never_falls { F.faults files.old ≤ F.faults files.new }
     ensures content { F.content files.new ≡ F.content files.old }
 {
     let mut steps = Steps::<L>::new(blank);
-    answer_of(verify(alloc, names, problem, files, &mut steps))
+    let verdict = verify(alloc, names, problem, files, &mut steps);
+    names.distinct();
+    answer_of(verdict)
 }
 
 /// Opens the explicit certificate and checks it against the problem.
@@ -120,7 +123,8 @@ fn checked<F: Files>(
     requires logic { problem.now.logic ≡ Lkf }
     requires closed { IsClosed problem.now.goal }
     requires lkf { IsLkf problem.now.goal }
-    ensures caused { (p : List ℕ) → SpellsGoal (F.content files.old p) problem.now.goal → F.content files.old p ≢ missing → IsCaused (asked_to_verify p name.now) (F.content files.old) (F.faults files.old) (F.faults files.new) result }
+    ensures caused { (p : List ℕ) → SpellsGoal names.old (F.content files.old p) problem.now.goal → F.content files.old p ≢ missing
+        → IsCaused (asked_to_verify p name.now) (F.content files.old) (F.left files.new) (F.faults files.old) (F.faults files.new) result }
     ensures never_falls { F.faults files.old ≤ F.faults files.new }
     ensures content { F.content files.new ≡ F.content files.old }
 {
@@ -132,7 +136,7 @@ fn checked<F: Files>(
 
 /// The answer to `verify`.
 fn verified<F: Files>(alloc: Global, problem: &str, explicit: &str, files: &mut F) -> Answer
-    ensures caused { IsCaused (asked_to_verify problem.now explicit.now) (F.content files.old) (F.faults files.old) (F.faults files.new) result }
+    ensures caused { IsCaused (asked_to_verify problem.now explicit.now) (F.content files.old) (F.left files.new) (F.faults files.old) (F.faults files.new) result }
     ensures never_falls { F.faults files.old ≤ F.faults files.new }
     ensures content { F.content files.new ≡ F.content files.old }
 {
@@ -145,7 +149,7 @@ fn verified<F: Files>(alloc: Global, problem: &str, explicit: &str, files: &mut 
 
 /// The answer to the words.
 fn answer<F: Files>(alloc: Global, words: &Words, files: &mut F) -> Answer
-    ensures caused { IsCaused (asked_by words.now) (F.content files.old) (F.faults files.old) (F.faults files.new) result }
+    ensures caused { IsCaused (asked_by words.now) (F.content files.old) (F.left files.new) (F.faults files.old) (F.faults files.new) result }
     ensures never_falls { F.faults files.old ≤ F.faults files.new }
     ensures content { F.content files.new ≡ F.content files.old }
 {
@@ -168,7 +172,7 @@ fn write<S: Sink>(status: Status, text: &[u8], out: &mut S) -> Status
 /// Runs the program on its words: makes the whole output first, then writes it. The status is 0 for accepted, 1 for rejected,
 /// 3 for a refused file, 4 for words that are no command, 5 for a read fault, 6 for a write fault, 8 for want of memory.
 pub fn run<F: Files, S: Sink>(alloc: Global, words: &Words, files: &mut F, out: &mut S) -> Status
-    ensures answered { IsAnswered (asked_by words.now) (F.content files.old) (F.faults files.old) (F.faults files.new) result.code
+    ensures answered { IsAnswered (asked_by words.now) (F.content files.old) (F.left files.new) (F.faults files.old) (F.faults files.new) result.code
         (S.faults out.old) (S.faults out.new) (S.taken out.old) (S.taken out.new) }
     ensures never_falls { F.faults files.old ≤ F.faults files.new }
     ensures content { F.content files.new ≡ F.content files.old }
