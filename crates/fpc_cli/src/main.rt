@@ -3,6 +3,7 @@
 
 mod answer;
 mod command;
+mod laws;
 mod run;
 mod status;
 mod words;

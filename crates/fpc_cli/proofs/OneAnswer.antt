@@ -1,0 +1,207 @@
+-- The words and the contents of the files have one answer.
+use Rattle.std.proofs.Common.{◌≡◌, ◌≢◌, ◌⊎◌, ℕ, ◌≤◌, ◌<◌, List, [], ◌++◌, length, Option, refl, sym, ap, ◌∙◌, subst, arith, inl, inr, true}
+use Rattle.fpc_base.specs.Lexeme.{items_of}
+use Rattle.fpc_base.specs.Outside.{Content, untold, missing, holds, Rose}
+use Rattle.fpc_base.specs.Tokens.{HasForm}
+use Rattle.fpc_terms.specs.Name.{Agrees}
+use Rattle.fpc_terms.specs.Written.{WrittenTerm, WrittenArgs, variable_word, application, no_words, words}
+use Rattle.polarised_formulas.specs.EachName.{EachName, EachNameOf, EachNameIn}
+use Rattle.polarised_formulas.specs.PlainForm.{GivesBack, begins_name}
+use Rattle.polarised_formulas.specs.Spoken.{Says}
+use Rattle.polarised_formulas.proofs.Named.{EachName-said}
+use Rattle.polarised_formulas.proofs.Passed.{IsRead-read}
+use Rattle.fpc_base.specs.declared.tokens.TokenKind.TheVariants.{Name}
+use Rattle.fpc_base.specs.declared.refusal.Refusal.{Refusal}
+use Rattle.polarised_formulas.specs.Numbering.{number_in, text_in}
+use Rattle.polarised_formulas.proofs.Numberings.{GivesBack-number_in, Agrees-number_in}
+use Rattle.polarised_formulas.specs.Place.{ProblemLimits}
+use Rattle.polarised_formulas.specs.Written.{WrittenFormula, true_unit, false_unit, literal, pair, bind, IsProblem, formula_meant}
+use Rattle.polarised_formulas.specs.Formula.{Formula}
+use Rattle.polarised_formulas.proofs.ProblemReading.{problem-read_once, problem-refused_once, problem-not_both}
+use Rattle.fpc_base.specs.Reading.{ReadsAll, RefusesAll}
+use Rattle.explicit_kernel.specs.Judgment.{Judgment, accepted, rejected, refused, judgment}
+use Rattle.fpc_cli.specs.declared.answer.Answer.{Answer}
+use Rattle.fpc_cli.specs.declared.answer.Answer.TheVariants.{Accepted, Rejected, Refused, Usage, ReadFault, OutOfMemory}
+use Rattle.fpc_cli.specs.declared.answer.Role.TheVariants.{Problem, Definition, Certificate, Explicit, Atom, Native}
+use Rattle.fpc_cli.specs.Command.{Asked, verify, usage}
+use Rattle.fpc_cli.specs.Run.{MayHold, MayBeTooLarge, SpellsGoal, IsGood, IsProblemRefused, MissesOne, left_of, IsVerified, IsAccepted, IsRejected, IsRefused, IsCaused}
+use Rattle.fpc_cli.specs.OneAnswer.{IsTold, IsFound, HasOneAnswer}
+
+-- what the law of numbers says of judgments
+abbrev DontMatter : Type 0
+DontMatter = (text text' : ℕ → List ℕ) (number number' : List ℕ → ℕ) → GivesBack text number → GivesBack text' number' → (w : WrittenFormula) → EachNameIn (λ x. begins_name x ≡ true) w
+    → (bytes : List ℕ) → judgment number (formula_meant number [] [] w) bytes ≡ judgment number' (formula_meant number' [] [] w) bytes
+
+-- a file that is told holds one list of bytes
+same-bytes : (c : Content) (x y : List ℕ) → IsTold c → MayHold c x → MayHold c y → x ≡ y
+same-bytes untold x y t h k = absurd t
+same-bytes missing x y t h k = absurd h
+same-bytes (holds b) x y t h k = sym h ∙ k
+
+small-or-large : (c : Content) (x : List ℕ) → IsTold c → MayHold c x → length x ≤ 16777216 → MayBeTooLarge c → ⊥
+small-or-large untold x t h small large = t
+small-or-large missing x t h small large = h
+small-or-large (holds b) x t h small large = let e = ap length h in omega (arith, e, small, large)
+
+-- a problem that is read isn't refused
+good-or-refused : (c : Content) (names : List (List ℕ)) (goal : Formula) (r : Refusal) → IsTold c → SpellsGoal names c goal → IsProblemRefused c r → ⊥
+good-or-refused c names goal r t h (inl (e, large)) = small-or-large c h.bytes t h.held h.size large
+good-or-refused c names goal r t h (inr (bytes, (held, small, refuses))) =
+    problem-not_both (length bytes) (items_of bytes) h.read.written r (subst (λ bs. ReadsAll IsProblem ProblemLimits [] (items_of bs) h.read.written) (same-bytes c h.bytes bytes t h.held held) h.read.reads) refuses
+
+refused-once : (c : Content) (r s : Refusal) → IsTold c → IsProblemRefused c r → IsProblemRefused c s → r ≡ s
+refused-once c r s t (inl (e, large)) (inl (f, large')) = e ∙ sym f
+refused-once c r s t (inl (e, large)) (inr (bytes, (held, small, refuses))) = absurd (small-or-large c bytes t held small large)
+refused-once c r s t (inr (bytes, (held, small, refuses))) (inl (e, large)) = absurd (small-or-large c bytes t held small large)
+refused-once c r s t (inr (bytes, (held, small, refuses))) (inr (bytes', (held', small', refuses'))) =
+    problem-refused_once (length bytes') (items_of bytes') r s (subst (λ bs. RefusesAll IsProblem ProblemLimits (length bs) [] (items_of bs) r) (same-bytes c bytes bytes' t held held') refuses) refuses'
+
+-- a name token begins as a name
+begins-formed : (x : List ℕ) → HasForm Name x → begins_name x ≡ true
+begins-formed x h = ?
+
+mutual
+  begins-term : (t : WrittenTerm) → EachName (HasForm Name) t → EachName (λ x. begins_name x ≡ true) t
+  begins-term (variable_word x) h = tt
+  begins-term (application x ts) h = (begins-formed x h.0, begins-args ts h.1)
+
+  begins-args : (ts : WrittenArgs) → EachNameOf (HasForm Name) ts → EachNameOf (λ x. begins_name x ≡ true) ts
+  begins-args no_words h = tt
+  begins-args (words t ts) h = (begins-term t h.0, begins-args ts h.1)
+
+begins-formula : (w : WrittenFormula) → EachNameIn (HasForm Name) w → EachNameIn (λ x. begins_name x ≡ true) w
+begins-formula (true_unit q) h = tt
+begins-formula (false_unit q) h = tt
+begins-formula (literal positive x ts) h = (begins-formed x h.0, begins-args ts h.1)
+begins-formula (pair j a b) h = (begins-formula a h.0, begins-formula b h.1)
+begins-formula (bind q x a) h = begins-formula a h
+
+-- the names of a problem that is read begin as names
+begin-as-names : (names : List (List ℕ)) (c : Content) (goal : Formula) (h : SpellsGoal names c goal) → EachNameIn (λ x. begins_name x ≡ true) h.read.written.formula
+begin-as-names names c goal h =
+    let w = h.read.written in
+    let r = IsRead-read (items_of h.bytes) w h.read.reads in
+    begins-formula w.formula (EachName-said h.bytes w.logic w.formula (subst (λ cs. Says cs (items_of h.bytes)) r.is_problem.spelled r.said))
+
+module _ (numbers : DontMatter) (p e : List ℕ) (content : List ℕ → Content) (told : IsTold (content p)) (told' : IsTold (content e)) where
+  -- two readings of the problem are the same
+  same-written : (names names' : List (List ℕ)) (goal goal' : Formula) (g : SpellsGoal names (content p) goal) (h : SpellsGoal names' (content p) goal') → g.read.written ≡ h.read.written
+  same-written names names' goal goal' g h =
+      problem-read_once (items_of h.bytes) g.read.written h.read.written
+      (subst (λ bs. ReadsAll IsProblem ProblemLimits [] (items_of bs) g.read.written) (same-bytes (content p) g.bytes h.bytes told g.held h.held) g.read.reads) h.read.reads
+
+  -- two judgments of the same files are the same
+  shared : (left left' : Option (List ℕ)) (P Q : ℕ → Judgment → Type 0) (v : IsVerified (content p) (content e) left P) (w : IsVerified (content p) (content e) left' Q) → (j : Judgment) × (P (length v.taken) j × Q (length w.taken) j)
+  shared left left' P Q v w = (judgment n v.goal bytes, (v.judged n agrees, subst (Q (length w.taken)) same (w.judged m agrees')))
+    where
+      n : List ℕ → ℕ
+      n = number_in (length v.names) v.names
+
+      m : List ℕ → ℕ
+      m = number_in (length w.names) w.names
+
+      agrees : Agrees n v.names
+      agrees = Agrees-number_in (length v.names) v.names v.different
+
+      agrees' : Agrees m w.names
+      agrees' = Agrees-number_in (length w.names) w.names w.different
+
+      bytes : List ℕ
+      bytes = v.taken ++ left_of left
+
+      low : (names : List (List ℕ)) → length names ≤ length names
+      low names = omega arith
+
+      same : judgment m w.goal (w.taken ++ left_of left') ≡ judgment n v.goal bytes
+      same =
+          ap (judgment m w.goal) (same-bytes (content e) (w.taken ++ left_of left') bytes told' w.held v.held)
+          ∙ ap (λ g. judgment m g bytes) (w.spelled.read.meant m agrees' ∙ ap (λ r. formula_meant m [] [] r.formula) (same-written w.names v.names w.goal v.goal w.spelled v.spelled))
+          ∙ numbers (text_in (length w.names) w.names) (text_in (length v.names) v.names) m n (GivesBack-number_in (length w.names) w.names (low w.names)) (GivesBack-number_in (length v.names) v.names (low v.names))
+          v.spelled.read.written.formula (begin-as-names v.names (content p) v.goal v.spelled) bytes
+          ∙ ap (λ g. judgment n g bytes) (sym (v.spelled.read.meant n agrees))
+
+  -- what an answer to `verify` is: a verdict on the certificate, a refusal of the problem, or that a file is missing
+  data View (left : Option (List ℕ)) : Answer → Type 0 where
+    accepts : {n : ℕ} → IsVerified (content p) (content e) left (IsAccepted n) → content e ≢ missing → View left (Accepted n)
+    rejects : {k : ℕ} → IsVerified (content p) (content e) left (IsRejected k) → content e ≢ missing → View left (Rejected k)
+    refuses : {r : Refusal} → IsVerified (content p) (content e) left (IsRefused r) → content e ≢ missing → View left (Refused Explicit r)
+    no_problem : {r : Refusal} → IsProblemRefused (content p) r → content p ≢ missing → View left (Refused Problem r)
+    no_file : (content p ≡ missing) ⊎ (IsGood (content p) × (content e ≡ missing)) → View left ReadFault
+
+  view : (left : Option (List ℕ)) (before now : ℕ) → (Rose before now → ⊥) → (a : Answer) → IsFound a → IsCaused (verify p e) content left before now a → View left a
+  view left before now calm (Accepted n) found (there, same, judged, proved) = accepts judged there.1
+  view left before now calm (Rejected k) found (there, same, judged) = rejects judged there.1
+  view left before now calm (Refused Explicit r) found (there, same, judged) = refuses judged there.1
+  view left before now calm (Refused Problem r) found (there, same, refusal) = no_problem refusal there
+  view left before now calm (Refused Definition r) found (there, same, refusal) = absurd there
+  view left before now calm (Refused Certificate r) found (there, same, refusal) = absurd there
+  view left before now calm (Refused Atom r) found (there, same, refusal) = absurd there
+  view left before now calm (Refused Native r) found (there, same, refusal) = absurd there
+  view left before now calm Usage found (e', same) = let never : ⊥ = cc in absurd never
+  view left before now calm ReadFault found (asked, inl rose) = absurd (calm rose)
+  view left before now calm ReadFault found (asked, inr misses) = no_file misses
+  view left before now calm OutOfMemory found h = absurd found
+
+  -- a problem that was judged isn't refused, and its file is there
+  good : (left : Option (List ℕ)) (P : ℕ → Judgment → Type 0) → IsVerified (content p) (content e) left P → IsGood (content p)
+  good left P v = (v.names, (v.goal, v.spelled))
+
+  good-refused : IsGood (content p) → (r : Refusal) → IsProblemRefused (content p) r → ⊥
+  good-refused g r h = good-or-refused (content p) g.0 g.1.0 r told g.1.1 h
+
+  good-there : IsGood (content p) → content p ≢ missing
+  good-there g m = subst (λ c. MayHold c g.1.1.bytes) m g.1.1.held
+
+  good-found : IsGood (content p) → content e ≢ missing → (content p ≡ missing) ⊎ (IsGood (content p) × (content e ≡ missing)) → ⊥
+  good-found g there (inl m) = good-there g m
+  good-found g there (inr m) = there m.1
+
+  bad-found : (r : Refusal) → IsProblemRefused (content p) r → content p ≢ missing → (content p ≡ missing) ⊎ (IsGood (content p) × (content e ≡ missing)) → ⊥
+  bad-found r h there (inl m) = there m
+  bad-found r h there (inr m) = good-refused m.0 r h
+
+  one : (left left' : Option (List ℕ)) (a b : Answer) → View left a → View left' b → a ≡ b
+  one left left' (Accepted n) (Accepted k) (accepts v there) (accepts w there') = let s = shared left left' (IsAccepted n) (IsAccepted k) v w in let x = s.1.0 in let y = s.1.1 in let same : n ≡ k = cc in ap Accepted same
+  one left left' (Accepted n) (Rejected k) (accepts v there) (rejects w there') = let s = shared left left' (IsAccepted n) (IsRejected k) v w in let x = s.1.0 in let y = s.1.1.1.0 in let never : ⊥ = cc in absurd never
+  one left left' (Accepted n) (Refused Explicit r) (accepts v there) (refuses w there') = let s = shared left left' (IsAccepted n) (IsRefused r) v w in let x = s.1.0 in let y = s.1.1.1.0 in let never : ⊥ = cc in absurd never
+  one left left' (Accepted n) (Refused Problem r) (accepts v there) (no_problem h there') = absurd (good-refused (good left (IsAccepted n) v) r h)
+  one left left' (Accepted n) ReadFault (accepts v there) (no_file m) = absurd (good-found (good left (IsAccepted n) v) there m)
+  one left left' (Rejected n) (Accepted k) (rejects v there) (accepts w there') = let s = shared left left' (IsRejected n) (IsAccepted k) v w in let x = s.1.0.1.0 in let y = s.1.1 in let never : ⊥ = cc in absurd never
+  one left left' (Rejected n) (Rejected k) (rejects v there) (rejects w there') = let s = shared left left' (IsRejected n) (IsRejected k) v w in let x = s.1.0.1.0 in let y = s.1.1.1.0 in let same : n ≡ k = cc in ap Rejected same
+  one left left' (Rejected n) (Refused Explicit r) (rejects v there) (refuses w there') = let s = shared left left' (IsRejected n) (IsRefused r) v w in let x = s.1.0.1.0 in let y = s.1.1.1.0 in let never : ⊥ = cc in absurd never
+  one left left' (Rejected n) (Refused Problem r) (rejects v there) (no_problem h there') = absurd (good-refused (good left (IsRejected n) v) r h)
+  one left left' (Rejected n) ReadFault (rejects v there) (no_file m) = absurd (good-found (good left (IsRejected n) v) there m)
+  one left left' (Refused Explicit r) (Accepted k) (refuses v there) (accepts w there') = let s = shared left left' (IsRefused r) (IsAccepted k) v w in let x = s.1.0.1.0 in let y = s.1.1 in let never : ⊥ = cc in absurd never
+  one left left' (Refused Explicit r) (Rejected k) (refuses v there) (rejects w there') = let s = shared left left' (IsRefused r) (IsRejected k) v w in let x = s.1.0.1.0 in let y = s.1.1.1.0 in let never : ⊥ = cc in absurd never
+  one left left' (Refused Explicit r) (Refused Explicit t) (refuses v there) (refuses w there') = let s = shared left left' (IsRefused r) (IsRefused t) v w in let x = s.1.0.1.0 in let y = s.1.1.1.0 in let same : r ≡ t = cc in ap (Refused Explicit) same
+  one left left' (Refused Explicit r) (Refused Problem t) (refuses v there) (no_problem h there') = absurd (good-refused (good left (IsRefused r) v) t h)
+  one left left' (Refused Explicit r) ReadFault (refuses v there) (no_file m) = absurd (good-found (good left (IsRefused r) v) there m)
+  one left left' (Refused Problem r) (Accepted k) (no_problem h there) (accepts w there') = absurd (good-refused (good left' (IsAccepted k) w) r h)
+  one left left' (Refused Problem r) (Rejected k) (no_problem h there) (rejects w there') = absurd (good-refused (good left' (IsRejected k) w) r h)
+  one left left' (Refused Problem r) (Refused Explicit t) (no_problem h there) (refuses w there') = absurd (good-refused (good left' (IsRefused t) w) r h)
+  one left left' (Refused Problem r) (Refused Problem t) (no_problem h there) (no_problem k there') = ap (Refused Problem) (refused-once (content p) r t told h k)
+  one left left' (Refused Problem r) ReadFault (no_problem h there) (no_file m) = absurd (bad-found r h there m)
+  one left left' ReadFault (Accepted k) (no_file m) (accepts w there') = absurd (good-found (good left' (IsAccepted k) w) there' m)
+  one left left' ReadFault (Rejected k) (no_file m) (rejects w there') = absurd (good-found (good left' (IsRejected k) w) there' m)
+  one left left' ReadFault (Refused Explicit t) (no_file m) (refuses w there') = absurd (good-found (good left' (IsRefused t) w) there' m)
+  one left left' ReadFault (Refused Problem t) (no_file m) (no_problem k there') = absurd (bad-found t k there' m)
+  one left left' ReadFault ReadFault (no_file m) (no_file m') = refl
+
+-- words that are no command have the answer `usage`
+usage-is : (content : List ℕ → Content) (left : Option (List ℕ)) (before now : ℕ) (a : Answer) → IsFound a → IsCaused usage content left before now a → a ≡ Usage
+usage-is content left before now (Accepted n) found (there, same, judged, proved) = absurd there
+usage-is content left before now (Rejected k) found (there, same, judged) = absurd there
+usage-is content left before now (Refused Problem r) found (there, same, refusal) = absurd there
+usage-is content left before now (Refused Definition r) found (there, same, refusal) = absurd there
+usage-is content left before now (Refused Certificate r) found (there, same, refusal) = absurd there
+usage-is content left before now (Refused Explicit r) found (there, same, refusal) = absurd there
+usage-is content left before now (Refused Atom r) found (there, same, refusal) = absurd there
+usage-is content left before now (Refused Native r) found (there, same, refusal) = absurd there
+usage-is content left before now Usage found h = refl
+usage-is content left before now ReadFault found (asked, h) = absurd (asked refl)
+usage-is content left before now OutOfMemory found h = absurd found
+
+pub one-answer : DontMatter → HasOneAnswer
+one-answer numbers (verify p e) content told left left' before now before' now' calm calm' a b h k found found' =
+    one numbers p e content told.0 told.1 left left' a b (view numbers p e content told.0 told.1 left before now calm a found h) (view numbers p e content told.0 told.1 left' before' now' calm' b found' k)
+one-answer numbers usage content told left left' before now before' now' calm calm' a b h k found found' = usage-is content left before now a found h ∙ sym (usage-is content left' before' now' b found' k)

@@ -1,0 +1,28 @@
+-- The words and the contents of the files have one answer.
+use Rattle.std.specs.Prelude.{◌≡◌, ℕ, List, Option}
+use Rattle.fpc_base.specs.Outside.{Content, untold, missing, holds, Rose}
+use Rattle.fpc_cli.specs.declared.answer.Answer.{Answer}
+use Rattle.fpc_cli.specs.declared.answer.Answer.TheVariants.{OutOfMemory}
+use Rattle.fpc_cli.specs.Command.{Asked, verify, usage}
+use Rattle.fpc_cli.specs.Run.{IsCaused}
+
+-- it is told of a file what it holds, or that there is none
+abbrev pub IsTold : Content → Type 0
+IsTold untold = ⊥
+IsTold missing = Unit {0}
+IsTold (holds bytes) = Unit {0}
+
+-- so of the files of the command
+abbrev pub AreTold : Asked → (List ℕ → Content) → Type 0
+AreTold (verify problem explicit) content = IsTold (content problem) × IsTold (content explicit)
+AreTold usage content = Unit {0}
+
+-- memory sufficed for the answer
+abbrev pub IsFound : Answer → Type 0
+IsFound OutOfMemory = ⊥
+IsFound _ = Unit {0}
+
+-- Where the files tell their contents and no count of faults rose, two answers with a cause are the same, but for want of memory.
+abbrev pub HasOneAnswer : Type 0
+HasOneAnswer = (asked : Asked) (content : List ℕ → Content) → AreTold asked content → (left left' : Option (List ℕ)) (before now before' now' : ℕ) → (Rose before now → ⊥) → (Rose before' now' → ⊥)
+    → (a b : Answer) → IsCaused asked content left before now a → IsCaused asked content left' before' now' b → IsFound a → IsFound b → a ≡ b

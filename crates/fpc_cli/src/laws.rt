@@ -1,0 +1,7 @@
+//! Laws over the definition of the program's answers. The functions do nothing: their contracts say the laws.
+ghost use Rattle.fpc_cli.specs.OneAnswer.{HasOneAnswer};
+
+/// The words and the contents of the files have one answer, but for want of memory and failed calls.
+pub fn one_answer()
+    ensures { HasOneAnswer }
+{}
