@@ -16,3 +16,4 @@ pub mod Proper
 pub mod Feeding
 pub mod Taking
 pub mod ReaderFeeding
+pub mod SameLines

@@ -5,7 +5,9 @@ use Rattle.fpc_base.specs.declared.refusal.Refusal.{Refusal}
 use Rattle.polarised_formulas.specs.declared.logic.Logic.TheVariants.{Lkf}
 use Rattle.polarised_formulas.specs.declared.step.Step.{Step}
 use Rattle.polarised_formulas.specs.Formula.{Formula, IsClosed}
-use Rattle.polarised_formulas.specs.PlainForm.{GivesBack}
+use Rattle.polarised_formulas.specs.Written.{WrittenFormula, formula_meant}
+use Rattle.polarised_formulas.specs.EachName.{EachNameIn}
+use Rattle.polarised_formulas.specs.PlainForm.{begins_name, GivesBack}
 use Rattle.lkf_rules.specs.Sequent.{Levelled}
 use Rattle.lkf_rules.specs.Derivation.{node_count}
 use Rattle.lkf_rules.specs.Certificate.{IsSpelling}
@@ -90,3 +92,8 @@ RefusedFirst = (number : List ℕ → ℕ) (goal : Formula) (bytes : List ℕ) (
 -- bytes that show a judgment keep it whatever comes behind them
 abbrev pub JudgmentStays : Type 0
 JudgmentStays = (number : List ℕ → ℕ) (goal : Formula) (front more : List ℕ) (j : Judgment) → course_of number goal front ≡ judged j → judgment number goal (front ++ more) ≡ j
+
+-- A certificate has the same judgment by any two numberings that give the names back. The goal is what a written formula stands for by the same numbering.
+abbrev pub NumbersDontMatter : Type 0
+NumbersDontMatter = (text text' : ℕ → List ℕ) (number number' : List ℕ → ℕ) → GivesBack text number → GivesBack text' number' → (w : WrittenFormula) → EachNameIn (λ x. begins_name x ≡ true) w
+    → (bytes : List ℕ) → judgment number (formula_meant number [] [] w) bytes ≡ judgment number' (formula_meant number' [] [] w) bytes

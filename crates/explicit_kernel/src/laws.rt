@@ -1,5 +1,5 @@
 //! Laws of the judgment of a certificate. The functions do nothing: their contracts say the laws.
-ghost use Rattle.explicit_kernel.specs.JudgmentLaws.{AcceptedHasNodes, AcceptedIsSpelled, JudgmentStays, RefusedFirst, RejectedAtLine, RejectedBegins};
+ghost use Rattle.explicit_kernel.specs.JudgmentLaws.{AcceptedHasNodes, AcceptedIsSpelled, JudgmentStays, NumbersDontMatter, RefusedFirst, RejectedAtLine, RejectedBegins};
 
 /// A certificate for a closed goal is accepted with so many steps exactly where it is the text of so many, within the limits, which spell a derivation of the goal.
 /// The derivation has as many nodes.
@@ -23,4 +23,10 @@ pub fn refusal()
 /// Bytes that show a judgment keep it whatever comes behind them.
 pub fn first_judgment()
     ensures { JudgmentStays }
+{}
+
+/// The judgment of a certificate hangs on no choice of numbers for names: it is the same by any two numberings by which each name has its text, with the goal that
+/// a written formula stands for by each.
+pub fn numbers()
+    ensures { NumbersDontMatter }
 {}

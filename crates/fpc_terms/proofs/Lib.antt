@@ -11,3 +11,4 @@ pub mod PrintFacts
 pub mod ReadFacts
 pub mod TokenNames
 pub mod NamesBelow
+pub mod SameTerms

@@ -9,3 +9,4 @@ pub mod InitialFacts
 pub mod StepFacts
 pub mod Complete
 pub mod ScopeNodes
+pub mod SameSequents

@@ -60,3 +60,6 @@ pub mod Wanted
 pub mod Taking
 pub mod Explained
 pub mod PlainNamed
+pub mod SameFormulas
+pub mod SameReadings
+pub mod SameSteps
