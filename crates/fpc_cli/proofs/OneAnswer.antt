@@ -1,8 +1,9 @@
 -- The words and the contents of the files have one answer.
-use Rattle.std.proofs.Common.{◌≡◌, ◌≢◌, ◌⊎◌, ℕ, ◌≤◌, ◌<◌, List, [], ◌++◌, length, Option, refl, sym, ap, ◌∙◌, subst, arith, inl, inr, true}
+use Rattle.std.proofs.Common.{◌∷◌, ◌≡◌, ◌≢◌, not, ◌⊎◌, ℕ, ◌≤◌, ◌<◌, List, [], ◌++◌, length, Option, refl, sym, ap, ◌∙◌, subst, arith, inl, inr, true}
+use Rattle.std.proofs.lemmas.Bool.{and_parts}
 use Rattle.fpc_base.specs.Lexeme.{items_of}
 use Rattle.fpc_base.specs.Outside.{Content, untold, missing, holds, Rose}
-use Rattle.fpc_base.specs.Tokens.{HasForm}
+use Rattle.fpc_base.specs.Tokens.{is_word, is_one_of, keywords, HasForm}
 use Rattle.fpc_terms.specs.Name.{Agrees}
 use Rattle.fpc_terms.specs.Written.{WrittenTerm, WrittenArgs, variable_word, application, no_words, words}
 use Rattle.polarised_formulas.specs.EachName.{EachName, EachNameOf, EachNameIn}
@@ -58,7 +59,8 @@ refused-once c r s t (inr (bytes, (held, small, refuses))) (inr (bytes', (held',
 
 -- a name token begins as a name
 begins-formed : (x : List ℕ) → HasForm Name x → begins_name x ≡ true
-begins-formed x h = ?
+begins-formed [] h = let never : ⊥ = cc in absurd never
+begins-formed (b ∷ bs) h = (and_parts (is_word (b ∷ bs)) (not (is_one_of keywords (b ∷ bs))) h.0).0
 
 mutual
   begins-term : (t : WrittenTerm) → EachName (HasForm Name) t → EachName (λ x. begins_name x ≡ true) t
@@ -161,31 +163,31 @@ module _ (numbers : DontMatter) (p e : List ℕ) (content : List ℕ → Content
   bad-found r h there (inr m) = good-refused m.0 r h
 
   one : (left left' : Option (List ℕ)) (a b : Answer) → View left a → View left' b → a ≡ b
-  one left left' (Accepted n) (Accepted k) (accepts v there) (accepts w there') = let s = shared left left' (IsAccepted n) (IsAccepted k) v w in let x = s.1.0 in let y = s.1.1 in let same : n ≡ k = cc in ap Accepted same
-  one left left' (Accepted n) (Rejected k) (accepts v there) (rejects w there') = let s = shared left left' (IsAccepted n) (IsRejected k) v w in let x = s.1.0 in let y = s.1.1.1.0 in let never : ⊥ = cc in absurd never
-  one left left' (Accepted n) (Refused Explicit r) (accepts v there) (refuses w there') = let s = shared left left' (IsAccepted n) (IsRefused r) v w in let x = s.1.0 in let y = s.1.1.1.0 in let never : ⊥ = cc in absurd never
-  one left left' (Accepted n) (Refused Problem r) (accepts v there) (no_problem h there') = absurd (good-refused (good left (IsAccepted n) v) r h)
-  one left left' (Accepted n) ReadFault (accepts v there) (no_file m) = absurd (good-found (good left (IsAccepted n) v) there m)
-  one left left' (Rejected n) (Accepted k) (rejects v there) (accepts w there') = let s = shared left left' (IsRejected n) (IsAccepted k) v w in let x = s.1.0.1.0 in let y = s.1.1 in let never : ⊥ = cc in absurd never
-  one left left' (Rejected n) (Rejected k) (rejects v there) (rejects w there') = let s = shared left left' (IsRejected n) (IsRejected k) v w in let x = s.1.0.1.0 in let y = s.1.1.1.0 in let same : n ≡ k = cc in ap Rejected same
-  one left left' (Rejected n) (Refused Explicit r) (rejects v there) (refuses w there') = let s = shared left left' (IsRejected n) (IsRefused r) v w in let x = s.1.0.1.0 in let y = s.1.1.1.0 in let never : ⊥ = cc in absurd never
-  one left left' (Rejected n) (Refused Problem r) (rejects v there) (no_problem h there') = absurd (good-refused (good left (IsRejected n) v) r h)
-  one left left' (Rejected n) ReadFault (rejects v there) (no_file m) = absurd (good-found (good left (IsRejected n) v) there m)
-  one left left' (Refused Explicit r) (Accepted k) (refuses v there) (accepts w there') = let s = shared left left' (IsRefused r) (IsAccepted k) v w in let x = s.1.0.1.0 in let y = s.1.1 in let never : ⊥ = cc in absurd never
-  one left left' (Refused Explicit r) (Rejected k) (refuses v there) (rejects w there') = let s = shared left left' (IsRefused r) (IsRejected k) v w in let x = s.1.0.1.0 in let y = s.1.1.1.0 in let never : ⊥ = cc in absurd never
-  one left left' (Refused Explicit r) (Refused Explicit t) (refuses v there) (refuses w there') = let s = shared left left' (IsRefused r) (IsRefused t) v w in let x = s.1.0.1.0 in let y = s.1.1.1.0 in let same : r ≡ t = cc in ap (Refused Explicit) same
-  one left left' (Refused Explicit r) (Refused Problem t) (refuses v there) (no_problem h there') = absurd (good-refused (good left (IsRefused r) v) t h)
-  one left left' (Refused Explicit r) ReadFault (refuses v there) (no_file m) = absurd (good-found (good left (IsRefused r) v) there m)
-  one left left' (Refused Problem r) (Accepted k) (no_problem h there) (accepts w there') = absurd (good-refused (good left' (IsAccepted k) w) r h)
-  one left left' (Refused Problem r) (Rejected k) (no_problem h there) (rejects w there') = absurd (good-refused (good left' (IsRejected k) w) r h)
-  one left left' (Refused Problem r) (Refused Explicit t) (no_problem h there) (refuses w there') = absurd (good-refused (good left' (IsRefused t) w) r h)
-  one left left' (Refused Problem r) (Refused Problem t) (no_problem h there) (no_problem k there') = ap (Refused Problem) (refused-once (content p) r t told h k)
-  one left left' (Refused Problem r) ReadFault (no_problem h there) (no_file m) = absurd (bad-found r h there m)
-  one left left' ReadFault (Accepted k) (no_file m) (accepts w there') = absurd (good-found (good left' (IsAccepted k) w) there' m)
-  one left left' ReadFault (Rejected k) (no_file m) (rejects w there') = absurd (good-found (good left' (IsRejected k) w) there' m)
-  one left left' ReadFault (Refused Explicit t) (no_file m) (refuses w there') = absurd (good-found (good left' (IsRefused t) w) there' m)
-  one left left' ReadFault (Refused Problem t) (no_file m) (no_problem k there') = absurd (bad-found t k there' m)
-  one left left' ReadFault ReadFault (no_file m) (no_file m') = refl
+  one left left' _ _ (accepts {n = n} v there) (accepts {n = k} w there') = let s = shared left left' (IsAccepted n) (IsAccepted k) v w in let x = s.1.0 in let y = s.1.1 in let same : n ≡ k = cc in ap Accepted same
+  one left left' _ _ (accepts {n = n} v there) (rejects {k = k} w there') = let s = shared left left' (IsAccepted n) (IsRejected k) v w in let x = s.1.0 in let y = s.1.1.1.0 in let never : ⊥ = cc in absurd never
+  one left left' _ _ (accepts {n = n} v there) (refuses {r = r} w there') = let s = shared left left' (IsAccepted n) (IsRefused r) v w in let x = s.1.0 in let y = s.1.1.1.0 in let never : ⊥ = cc in absurd never
+  one left left' _ _ (accepts {n = n} v there) (no_problem {r = r} h there') = absurd (good-refused (good left (IsAccepted n) v) r h)
+  one left left' _ _ (accepts {n = n} v there) (no_file m) = absurd (good-found (good left (IsAccepted n) v) there m)
+  one left left' _ _ (rejects {k = n} v there) (accepts {n = k} w there') = let s = shared left left' (IsRejected n) (IsAccepted k) v w in let x = s.1.0.1.0 in let y = s.1.1 in let never : ⊥ = cc in absurd never
+  one left left' _ _ (rejects {k = n} v there) (rejects {k = k} w there') = let s = shared left left' (IsRejected n) (IsRejected k) v w in let x = s.1.0.1.0 in let y = s.1.1.1.0 in let same : n ≡ k = cc in ap Rejected same
+  one left left' _ _ (rejects {k = n} v there) (refuses {r = r} w there') = let s = shared left left' (IsRejected n) (IsRefused r) v w in let x = s.1.0.1.0 in let y = s.1.1.1.0 in let never : ⊥ = cc in absurd never
+  one left left' _ _ (rejects {k = n} v there) (no_problem {r = r} h there') = absurd (good-refused (good left (IsRejected n) v) r h)
+  one left left' _ _ (rejects {k = n} v there) (no_file m) = absurd (good-found (good left (IsRejected n) v) there m)
+  one left left' _ _ (refuses {r = r} v there) (accepts {n = k} w there') = let s = shared left left' (IsRefused r) (IsAccepted k) v w in let x = s.1.0.1.0 in let y = s.1.1 in let never : ⊥ = cc in absurd never
+  one left left' _ _ (refuses {r = r} v there) (rejects {k = k} w there') = let s = shared left left' (IsRefused r) (IsRejected k) v w in let x = s.1.0.1.0 in let y = s.1.1.1.0 in let never : ⊥ = cc in absurd never
+  one left left' _ _ (refuses {r = r} v there) (refuses {r = t} w there') = let s = shared left left' (IsRefused r) (IsRefused t) v w in let x = s.1.0.1.0 in let y = s.1.1.1.0 in let same : r ≡ t = cc in ap (Refused Explicit) same
+  one left left' _ _ (refuses {r = r} v there) (no_problem {r = t} h there') = absurd (good-refused (good left (IsRefused r) v) t h)
+  one left left' _ _ (refuses {r = r} v there) (no_file m) = absurd (good-found (good left (IsRefused r) v) there m)
+  one left left' _ _ (no_problem {r = r} h there) (accepts {n = k} w there') = absurd (good-refused (good left' (IsAccepted k) w) r h)
+  one left left' _ _ (no_problem {r = r} h there) (rejects {k = k} w there') = absurd (good-refused (good left' (IsRejected k) w) r h)
+  one left left' _ _ (no_problem {r = r} h there) (refuses {r = t} w there') = absurd (good-refused (good left' (IsRefused t) w) r h)
+  one left left' _ _ (no_problem {r = r} h there) (no_problem {r = t} k there') = ap (Refused Problem) (refused-once (content p) r t told h k)
+  one left left' _ _ (no_problem {r = r} h there) (no_file m) = absurd (bad-found r h there m)
+  one left left' _ _ (no_file m) (accepts {n = k} w there') = absurd (good-found (good left' (IsAccepted k) w) there' m)
+  one left left' _ _ (no_file m) (rejects {k = k} w there') = absurd (good-found (good left' (IsRejected k) w) there' m)
+  one left left' _ _ (no_file m) (refuses {r = t} w there') = absurd (good-found (good left' (IsRefused t) w) there' m)
+  one left left' _ _ (no_file m) (no_problem {r = t} k there') = absurd (bad-found t k there' m)
+  one left left' _ _ (no_file m) (no_file m') = refl
 
 -- words that are no command have the answer `usage`
 usage-is : (content : List ℕ → Content) (left : Option (List ℕ)) (before now : ℕ) (a : Answer) → IsFound a → IsCaused usage content left before now a → a ≡ Usage

@@ -1,5 +1,6 @@
+use Rattle.explicit_kernel.proofs.SameCourses.{numbers_dont_matter}
 use Rattle.fpc_cli.proofs.OneAnswer.{one-answer}
 use Rattle.fpc_cli.proofs.laws.one_answer.Goals as goal
 
-pub returns-clause-0 : goal.returns-clause-0
-returns-clause-0 c = one-answer ?
+pub returns : goal.returns
+returns c = one-answer numbers_dont_matter
