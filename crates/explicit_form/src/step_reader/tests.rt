@@ -237,6 +237,59 @@ fn a_part_is_no_certificate(rt: HostRuntime) {
     }
 }
 
+/// A certificate that begins so, and goes on with the same bytes again and again.
+fn expect_limited(
+    rt: &impl Abort,
+    alloc: Global,
+    front: &[u8],
+    part: &[u8],
+    count: usize,
+    code: Code,
+    at: usize,
+) -> Result<(), Fail> {
+    let mut bytes = Vec::from_slice(alloc, front)?;
+    for _ in 0..count {
+        bytes.extend_from_slice(part)?;
+    }
+    expect_refused(rt, alloc, bytes.as_slice(), b"", code, at);
+    Ok(())
+}
+
+#[test]
+fn limits_are_told_at_the_first_byte_past_them(rt: HostRuntime) -> Result<(), Fail> {
+    let table: [(&[u8], &[u8], usize, Code, usize); 3] = [
+        (b"fpc 1 lkf\nsome ", b"a", 300, Code::LongName, 270),
+        (b"fpc 1 lkf\nsome f(a", b",a", 300, Code::ManyArguments, 526),
+        (b"fpc 1 lkf\ncut ", b"(", 10_100, Code::TooDeep, 10_014),
+    ];
+    for (front, part, count, code, at) in table {
+        expect_limited(&rt, rt.alloc(), front, part, count, code, at)?;
+    }
+    Ok(())
+}
+
+#[test]
+fn a_byte_past_the_most_is_too_large(rt: HostRuntime) {
+    let mut names = Names::new(rt.alloc());
+    let mut reader = StepReader::new(rt.alloc(), Logic::Lkf);
+    let most = 67_108_864;
+    assert_eq!(rt; reader.feed(&mut names, b"fpc 1 lkf\n"), Ok(10));
+    for _ in 0..11_184_809 {
+        assert_eq!(rt; reader.feed(&mut names, b"store\n"), Ok(6));
+    }
+    let unfinished = StepFault::Refused(Refusal {
+        code: Code::Unexpected,
+        at: most,
+    });
+    let too_large = StepFault::Refused(Refusal {
+        code: Code::TooLarge,
+        at: most,
+    });
+    assert_eq!(rt; reader.finish(), Err(unfinished));
+    assert_eq!(rt; reader.feed(&mut names, b"?"), Err(too_large));
+    assert_eq!(rt; reader.finish(), Err(too_large));
+}
+
 /// A certificate with a term of 10,000,000 nested applications.
 fn deep_certificate(alloc: Global) -> Result<Vec<u8>, Fail> {
     let mut bytes = Vec::from_slice(alloc, b"fpc 1 lkf\nstore\ndecide 0\nsome ")?;
@@ -279,6 +332,7 @@ fn a_fault_is_told_at_each_later_call(rt: HostRuntime) {
         code: Code::Unexpected,
         at: 12,
     });
+    assert!(rt; reader.take().is_none());
     let calls: [&[u8]; 5] = [b"store\n", b"", b"\n", b"fpc 1 lkf\n", b"end\n"];
     assert_eq!(rt; reader.feed(&mut names, b"fpc 1 lkf\nst"), Ok(10));
     assert_eq!(rt; reader.feed(&mut names, b"st?"), Err(fault));
