@@ -6,7 +6,7 @@ use fpc_base::refusal::{Code, Refusal};
 use fpc_terms::names::Names;
 use fpc_terms::term::TermBuf;
 use polarised_formulas::formula::Formula;
-use polarised_formulas::logic::{Logic, Polarity};
+use polarised_formulas::logic::{Logic, Polarity, Side};
 use polarised_formulas::node::Node;
 use polarised_formulas::step::Step;
 use std::alloc::Global;
@@ -199,6 +199,7 @@ fn other_bytes_are_refused(rt: HostRuntime) {
 
 #[test]
 fn a_certificate_without_its_last_byte_is_refused_at_its_end(rt: HostRuntime) {
+    expect_unfinished(&rt, rt.alloc(), b"fpc 1 lj", b"");
     expect_unfinished(&rt, rt.alloc(), &CERTIFICATE[..45], b"ossdi");
     for length in 66..73 {
         expect_unfinished(&rt, rt.alloc(), &WITH_CUT[..length], b"osscsDtfD");
@@ -268,14 +269,26 @@ fn limits_are_told_at_the_first_byte_past_them(rt: HostRuntime) -> Result<(), Fa
     Ok(())
 }
 
+/// The line of a step with a name of 255 bytes.
+fn long_line(alloc: Global) -> Result<Vec<u8>, Fail> {
+    let mut line = Vec::from_slice(alloc, b"some ")?;
+    for _ in 0..255 {
+        line.push(b'a')?;
+    }
+    line.push(b'\n')?;
+    Ok(line)
+}
+
 #[test]
-fn a_byte_past_the_most_is_too_large(rt: HostRuntime) {
+fn a_byte_past_the_most_is_too_large(rt: HostRuntime) -> Result<(), Fail> {
+    let line = long_line(rt.alloc())?;
     let mut names = Names::new(rt.alloc());
     let mut reader = StepReader::new(rt.alloc(), Logic::Lkf);
     let most = 67_108_864;
     assert_eq!(rt; reader.feed(&mut names, b"fpc 1 lkf\n"), Ok(10));
-    for _ in 0..11_184_809 {
-        assert_eq!(rt; reader.feed(&mut names, b"store\n"), Ok(6));
+    assert_eq!(rt; reader.feed(&mut names, b"some abcdef\n"), Ok(12));
+    for _ in 0..257_122 {
+        assert_eq!(rt; reader.feed(&mut names, line.as_slice()), Ok(261));
     }
     let unfinished = StepFault::Refused(Refusal {
         code: Code::Unexpected,
@@ -288,6 +301,7 @@ fn a_byte_past_the_most_is_too_large(rt: HostRuntime) {
     assert_eq!(rt; reader.finish(), Err(unfinished));
     assert_eq!(rt; reader.feed(&mut names, b"?"), Err(too_large));
     assert_eq!(rt; reader.finish(), Err(too_large));
+    Ok(())
 }
 
 /// A certificate with a term of 10,000,000 nested applications.
@@ -408,4 +422,128 @@ fn names_grow_by_the_names_of_the_steps(rt: HostRuntime) -> Result<(), Fail> {
     }
     assert_eq!(rt; names.len(), 6);
     Ok(())
+}
+
+/// A name for each step of the tables.
+fn name_of(step: &Step) -> &'static [u8] {
+    match step {
+        Step::TrueN => b"TrueN",
+        Step::FalseN => b"FalseN",
+        Step::OrN => b"OrN",
+        Step::AndN => b"AndN",
+        Step::Every => b"Every",
+        Step::Store => b"Store",
+        Step::Decide(10) => b"Decide",
+        Step::TrueP => b"TrueP",
+        Step::AndP => b"AndP",
+        Step::OrP(Side::Left) => b"OrPLeft",
+        Step::OrP(Side::Right) => b"OrPRight",
+        Step::Exists(_) => b"Exists",
+        Step::Release => b"Release",
+        Step::Init(999_999_999) => b"Init",
+        Step::Cut(_) => b"Cut",
+        Step::LTrue => b"LTrue",
+        Step::LFalse => b"LFalse",
+        Step::LAnd => b"LAnd",
+        Step::LOr => b"LOr",
+        Step::LExists => b"LExists",
+        Step::LStore => b"LStore",
+        Step::RTrue => b"RTrue",
+        Step::RAnd => b"RAnd",
+        Step::RImp => b"RImp",
+        Step::REvery => b"REvery",
+        Step::RStore => b"RStore",
+        Step::DecideL(0) => b"DecideL",
+        Step::DecideR => b"DecideR",
+        Step::FocLAnd(Side::Left) => b"FocLAndLeft",
+        Step::FocLAnd(Side::Right) => b"FocLAndRight",
+        Step::FocLImp => b"FocLImp",
+        Step::FocLEvery(_) => b"FocLEvery",
+        Step::FocLInit => b"FocLInit",
+        Step::FocLRelease => b"FocLRelease",
+        Step::FocRTrue => b"FocRTrue",
+        Step::FocRAnd => b"FocRAnd",
+        Step::FocROr(Side::Left) => b"FocROrLeft",
+        Step::FocROr(Side::Right) => b"FocROrRight",
+        Step::FocRExists(_) => b"FocRExists",
+        Step::FocRInit(2) => b"FocRInit",
+        Step::FocRRelease => b"FocRRelease",
+        _ => b"another",
+    }
+}
+
+/// A line that is read behind the first line of its logic.
+fn expect_line(rt: &impl Abort, alloc: Global, logic: Logic, line: &[u8], name: &[u8]) {
+    let header: &[u8] = match logic {
+        Logic::Lkf => b"fpc 1 lkf\n",
+        Logic::Ljf => b"fpc 1 ljf\n",
+    };
+    let mut names = Names::new(alloc);
+    let mut reader = StepReader::new(alloc, logic);
+    assert_eq!(rt; reader.feed(&mut names, header), Ok(10));
+    assert_eq!(rt; reader.feed(&mut names, line), Ok(line.len()));
+    match reader.take() {
+        Some(step) => assert_eq!(rt; name_of(&step), name),
+        None => panic!(rt; "no step"),
+    }
+}
+
+#[test]
+fn each_step_of_lkf_has_its_line(rt: HostRuntime) {
+    let table: [(&[u8], &[u8]); 15] = [
+        (b"tt-\n", b"TrueN"),
+        (b"ff-\n", b"FalseN"),
+        (b"or-\n", b"OrN"),
+        (b"and-\n", b"AndN"),
+        (b"all\n", b"Every"),
+        (b"store\n", b"Store"),
+        (b"decide 10\n", b"Decide"),
+        (b"tt+\n", b"TrueP"),
+        (b"and+\n", b"AndP"),
+        (b"or+ left\n", b"OrPLeft"),
+        (b"or+ right\n", b"OrPRight"),
+        (b"some f($0)\n", b"Exists"),
+        (b"release\n", b"Release"),
+        (b"init 999999999\n", b"Init"),
+        (b"cut (p |- ~p)\n", b"Cut"),
+    ];
+    for (line, name) in table {
+        expect_line(&rt, rt.alloc(), Logic::Lkf, line, name);
+    }
+}
+
+#[test]
+fn each_step_of_ljf_has_its_line(rt: HostRuntime) {
+    let table: [(&[u8], &[u8]); 27] = [
+        (b"l-tt\n", b"LTrue"),
+        (b"l-ff\n", b"LFalse"),
+        (b"l-and\n", b"LAnd"),
+        (b"l-or\n", b"LOr"),
+        (b"l-some\n", b"LExists"),
+        (b"l-store\n", b"LStore"),
+        (b"r-tt\n", b"RTrue"),
+        (b"r-and\n", b"RAnd"),
+        (b"r-imp\n", b"RImp"),
+        (b"r-all\n", b"REvery"),
+        (b"r-store\n", b"RStore"),
+        (b"decide-l 0\n", b"DecideL"),
+        (b"decide-r\n", b"DecideR"),
+        (b"lf-and left\n", b"FocLAndLeft"),
+        (b"lf-and right\n", b"FocLAndRight"),
+        (b"lf-imp\n", b"FocLImp"),
+        (b"lf-all $1\n", b"FocLEvery"),
+        (b"lf-init\n", b"FocLInit"),
+        (b"lf-release\n", b"FocLRelease"),
+        (b"rf-tt\n", b"FocRTrue"),
+        (b"rf-and\n", b"FocRAnd"),
+        (b"rf-or left\n", b"FocROrLeft"),
+        (b"rf-or right\n", b"FocROrRight"),
+        (b"rf-some a\n", b"FocRExists"),
+        (b"rf-init 2\n", b"FocRInit"),
+        (b"rf-release\n", b"FocRRelease"),
+        (b"cut ff\n", b"Cut"),
+    ];
+    for (line, name) in table {
+        expect_line(&rt, rt.alloc(), Logic::Ljf, line, name);
+    }
 }
