@@ -54,7 +54,8 @@ pub struct StepReader {
 impl StepReader {
     /// The reader of a certificate of the logic that is to come. It takes no memory.
     pub fn new(alloc: Global, logic: Logic) -> StepReader
-        ensures { (names : List (List ℕ)) → HasRead logic names [] result }
+        ensures read { (names : List (List ℕ)) → HasRead logic names [] result }
+        ensures none { result.step ≡ None }
     {
         StepReader {
             line: LineReader::new(alloc, logic),
@@ -65,7 +66,7 @@ impl StepReader {
     }
 
     /// Takes bytes up to and with the first end of a line, or all of them, and answers how many. A fault is told at the byte
-    /// that it stands at, and again at each later call.
+    /// that it stands at, and again at each later call; no step comes with it.
     pub fn feed(&mut self, names: &mut Names, bytes: &[u8]) -> Result<usize, StepFault>
         ensures grows { Grows names.old names.new }
         ensures fed { (logic : Logic) (known : List (List ℕ)) (before : List ℕ) → HasRead logic known before self.old → Grows known names.old
@@ -74,11 +75,12 @@ impl StepReader {
         ensures within { IfOk result (λ n. n ≤ length bytes.now) }
         ensures moves { 0 < length bytes.now → IfOk result (λ n. 0 < n) }
         ensures stays { (fault : StepFault) → result ≡ Err fault → self.new.phase ≡ Phase.Faulty fault }
+        ensures none { (fault : StepFault) → result ≡ Err fault → self.new.step ≡ None }
         ensures again { (fault : StepFault) → self.old.phase ≡ Phase.Faulty fault → result ≡ Err fault }
     {
         let phase = self.phase;
         match phase {
-            Phase::Faulty(fault) => Err(fault),
+            Phase::Faulty(fault) => Err(self.fail(fault)),
             _ => self.feed_line(names, bytes),
         }
     }
@@ -128,6 +130,7 @@ impl StepReader {
         ensures count { IfOk result (λ n. n ≡ line_length bytes.now) }
         ensures place { IfOk result (λ n. self.new.at ≡ self.old.at + n) }
         ensures stays { (fault : StepFault) → result ≡ Err fault → self.new.phase ≡ Phase.Faulty fault }
+        ensures none { (fault : StepFault) → result ≡ Err fault → self.new.step ≡ None }
     {
         self.step = None;
         for (i, b) in bytes.iter().enumerate() {
@@ -149,6 +152,7 @@ impl StepReader {
             → IsTaken logic (fault self.old.at st (go number logic st b)) (go number logic st b) (step_with number logic st b) result self.new }
         ensures place { IfOk result (λ u. self.new.at ≡ self.old.at + 1) }
         ensures stays { (fault : StepFault) → result ≡ Err fault → self.new.phase ≡ Phase.Faulty fault }
+        ensures none { (fault : StepFault) → result ≡ Err fault → self.new.step ≡ None }
     {
         self.step = None;
         let at = self.at;
@@ -170,13 +174,14 @@ impl StepReader {
         ensures taken { (number : List ℕ → ℕ) (logic : Logic) (st : State) → Agrees number names.new → IsAt logic st self.old → self.old.step ≡ None
             → IsTaken logic (byte_fault self.old.at st (go number logic st b)) (go number logic st b) (step_with number logic st b) result self.new }
         ensures stays { (fault : StepFault) → result ≡ Err fault → self.new.phase ≡ Phase.Faulty fault }
+        ensures none { (fault : StepFault) → result ≡ Err fault → self.new.step ≡ None }
     {
         let phase = self.phase;
         match phase {
             Phase::Heading => self.heading_byte(b),
             Phase::Lines => self.line_byte(names, b),
             Phase::Ended => Err(self.refuse(Code::Unexpected, self.at)),
-            Phase::Faulty(fault) => Err(fault),
+            Phase::Faulty(fault) => Err(self.fail(fault)),
         }
     }
 
@@ -184,6 +189,7 @@ impl StepReader {
         ensures taken { (logic : Logic) (w : List ℕ) → IsAt logic (heading w) self.old → self.old.step ≡ None
             → IsTaken logic (byte_fault self.old.at (heading w) (next_heading logic (w ++ b ∷ []))) (next_heading logic (w ++ b ∷ [])) None result self.new }
         ensures stays { (fault : StepFault) → result ≡ Err fault → self.new.phase ≡ Phase.Faulty fault }
+        ensures none { (fault : StepFault) → result ≡ Err fault → self.new.step ≡ None }
     {
         match push(&mut self.line.word, b) {
             Ok(()) => self.end_heading(),
@@ -196,6 +202,7 @@ impl StepReader {
         ensures taken { (logic : Logic) (w x : List ℕ) → IsAt logic (heading w) self.old → self.old.step ≡ None
             → IsTaken logic (byte_fault self.old.at (heading x) (next_heading logic w)) (next_heading logic w) None result self.new }
         ensures stays { (fault : StepFault) → result ≡ Err fault → self.new.phase ≡ Phase.Faulty fault }
+        ensures none { (fault : StepFault) → result ≡ Err fault → self.new.step ≡ None }
     {
         let logic = self.line.logic;
         let word = self.line.word.as_slice();
@@ -217,6 +224,7 @@ impl StepReader {
         ensures taken { (number : List ℕ → ℕ) (logic : Logic) (done : List Step) (l : Line) → Agrees number names.new → IsAt logic (reading done l) self.old → self.old.step ≡ None
             → IsTaken logic (byte_fault self.old.at (reading done l) (settle done (next number logic l b))) (settle done (next number logic l b)) (step_of (next number logic l b)) result self.new }
         ensures stays { (fault : StepFault) → result ≡ Err fault → self.new.phase ≡ Phase.Faulty fault }
+        ensures none { (fault : StepFault) → result ≡ Err fault → self.new.step ≡ None }
     {
         match self.line.byte(names, b) {
             Ok(Taken::Going) => Ok(()),
@@ -237,16 +245,17 @@ impl StepReader {
     /// Tells a refusal at a place.
     fn refuse(&mut self, code: Code, at: usize) -> StepFault
         ensures fault { result ≡ StepFault.Refused (record { code = code; at = at }) }
-        ensures value { self.new ≡ record self.old { phase = Phase.Faulty result } }
+        ensures value { self.new ≡ record self.old { phase = Phase.Faulty result; step = None } }
     {
         self.fail(StepFault::Refused(Refusal { code, at }))
     }
 
-    /// Tells a fault, and keeps it.
+    /// Tells a fault, and keeps it in place of a step.
     fn fail(&mut self, fault: StepFault) -> StepFault
         ensures fault { result ≡ fault }
-        ensures value { self.new ≡ record self.old { phase = Phase.Faulty fault } }
+        ensures value { self.new ≡ record self.old { phase = Phase.Faulty fault; step = None } }
     {
+        self.step = None;
         self.phase = Phase::Faulty(fault);
         fault
     }

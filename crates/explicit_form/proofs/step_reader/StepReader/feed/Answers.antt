@@ -11,5 +11,6 @@ returns-in_default c = record {
   within = is-within c.args.bytes.now c.feed_line.result c.feed_line.ensures.count;
   moves = moves-on c.args.bytes.now c.feed_line.result c.feed_line.ensures.count;
   stays = c.feed_line.ensures.stays;
+  none = c.feed_line.ensures.none;
   again = λ fault p. absurd (c.in_default.not-Faulty fault p);
 }
