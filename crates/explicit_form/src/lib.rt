@@ -4,7 +4,6 @@
 mod line;
 pub mod print;
 mod size;
-pub mod step_list;
 pub mod step_reader;
 pub mod word;
 mod words;
@@ -15,7 +14,6 @@ ghost use Rattle.explicit_form.specs.StepLimits.{CertificateOutcome, RefusalIsTo
 ghost use Rattle.explicit_form.specs.StepTables.{LinesInTable, PlainIsNamed, StepGrows, StepsAreRead, StepsOutcome};
 
 pub use print::{PrintRefusal, print_steps};
-pub use step_list::StepList;
 pub use step_reader::{StepFault, StepReader};
 
 /// Laws of certificates: the reading goes on exactly where the bytes begin a certificate, or no more than the first line of one for the other calculus. It ends

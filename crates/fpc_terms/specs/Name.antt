@@ -1,12 +1,12 @@
 -- Names as texts, and tables of them.
-use Rattle.std.specs.Prelude.{◌≡◌, ℕ, suc, zero, ◌<◌, ◌^◌, Bool, if◌then◌else◌, ◌&&◌, ◌||◌, nat_eq, nat_le, IsTrue, List, [], ◌∷◌, ◌++◌, length, slice_get, Option, Some, None, ◌⊎◌, ◌↔◌}
+use Rattle.std.specs.Prelude.{◌≡◌, ℕ, suc, zero, ◌<◌, ◌≤◌, ◌^◌, Bool, true, false, if◌then◌else◌, ◌&&◌, ◌||◌, nat_eq, nat_le, List, [], ◌∷◌, ◌++◌, length, slice_get, Option, Some, None, ◌⊎◌, ◌↔◌}
 use Rattle.std.specs.List.{list_all}
 use Rattle.std.specs.Str.{bytes_eq}
 use Rattle.std.specs.BTreeMap.{BTreeMap, get_by}
 use Rattle.std.specs.Cmp.Lexicographic.{slice_cmp}
 use Rattle.std.specs.Ordering.{nat_cmp}
 use Rattle.std.specs.Global.{Vec}
-use Rattle.fpc_base.specs.Tokens.{is_one_of}
+use Rattle.fpc_base.specs.Tokens.{is_one_of, keywords}
 
 -- the byte lies from the first to the last
 abbrev pub is_from_to : ℕ → ℕ → ℕ → Bool
@@ -20,10 +20,22 @@ is_small_letter b = is_from_to 97 122 b
 abbrev pub is_name_byte : ℕ → Bool
 is_name_byte b = is_small_letter b || is_from_to 65 90 b || is_from_to 48 57 b || nat_eq b 95
 
--- a small letter, and then letters, digits and `_`: at most 255 bytes
+-- a small letter, and then letters, digits and `_`
+abbrev pub begins_name : List ℕ → Bool
+begins_name [] = false
+begins_name (b ∷ bs) = is_small_letter b && list_all is_name_byte bs
+
+-- a keyword of the tokens, which is no name
+abbrev pub is_keyword : List ℕ → Bool
+is_keyword text = is_one_of keywords text
+
+-- what may be a name once it goes on: a keyword may stand here, and there are at most 255 bytes
+abbrev pub IsNameBegun : List ℕ → Type 0
+IsNameBegun text = (begins_name text ≡ true) × (length text ≤ 255)
+
+-- a small letter, and then letters, digits and `_`: at most 255 bytes, and no keyword
 abbrev pub IsName : List ℕ → Type 0
-IsName [] = ⊥
-IsName (b ∷ bs) = IsTrue (is_small_letter b) × IsTrue (list_all is_name_byte bs) × (length bs < 255)
+IsName text = (begins_name text ≡ true) × (is_keyword text ≡ false) × (length text ≤ 255)
 
 -- the text is one of the names
 abbrev pub HasName : List (List ℕ) → List ℕ → Type 0

@@ -1,7 +1,7 @@
 //! Names by number.
 ghost use Rattle.std.specs.Prelude.{◌≡◌, ℕ, IsTrue, ◌↔◌};
 ghost use Rattle.std.specs.List.{list_all};
-ghost use Rattle.fpc_terms.specs.Name.{IsName, is_small_letter, is_name_byte};
+ghost use Rattle.fpc_terms.specs.Name.{IsName, begins_name, is_keyword, is_small_letter, is_name_byte};
 
 use std::marker::Model;
 
@@ -35,16 +35,32 @@ impl NameId {
     }
 }
 
-/// Whether a text is a name: a small letter, then letters, digits and `_`, at most 255 bytes.
+/// Whether a text is a name: a small letter, then letters, digits and `_`, at most 255 bytes, and no keyword (`all`, `some`, `tt`, `ff`, `formula`
+/// or `certificate`).
 pub fn is_name(text: &[u8]) -> bool
     ensures { IsTrue result ↔ IsName text.now }
 {
+    begins_name(text) && !is_keyword(text) && text.len() <= 255
+}
+
+fn begins_name(text: &[u8]) -> bool
+    ensures { result ≡ begins_name text.now }
+{
     match text.split_first() {
-        Some((first, rest)) => {
-            is_small_letter(*first) && rest.len() < 255 && are_name_bytes(rest)
-        }
+        Some((first, rest)) => is_small_letter(*first) && are_name_bytes(rest),
         None => false,
     }
+}
+
+fn is_keyword(text: &[u8]) -> bool
+    ensures { result ≡ is_keyword text.now }
+{
+    text == b"all".as_slice()
+        || text == b"some".as_slice()
+        || text == b"tt".as_slice()
+        || text == b"ff".as_slice()
+        || text == b"formula".as_slice()
+        || text == b"certificate".as_slice()
 }
 
 fn are_name_bytes(text: &[u8]) -> bool
@@ -63,4 +79,28 @@ fn is_name_byte(b: u8) -> bool
     ensures { result ≡ is_name_byte b }
 {
     is_small_letter(b) || b >= b'A' && b <= b'Z' || b >= b'0' && b <= b'9' || b == b'_'
+}
+
+#[cfg(test)]
+mod tests {
+    use super::*;
+
+    #[test]
+    fn keywords_are_no_names(rt: HostRuntime) {
+        let table: [(&[u8], bool); 10] = [
+            (b"append", true),
+            (b"alls", true),
+            (b"", false),
+            (b"Nil", false),
+            (b"all", false),
+            (b"some", false),
+            (b"tt", false),
+            (b"ff", false),
+            (b"formula", false),
+            (b"certificate", false),
+        ];
+        for (text, expected) in table {
+            assert_eq!(rt; is_name(text), expected);
+        }
+    }
 }

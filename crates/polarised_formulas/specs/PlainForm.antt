@@ -1,7 +1,6 @@
 -- The terms and formulas that have a plain form, what stands on a line, and the laws that tie this to the reading byte by byte.
-use Rattle.std.specs.Prelude.{◌≡◌, ℕ, suc, ◌<◌, Bool, true, false, ◌&&◌, ◌↔◌, List, [], ◌∷◌, ◌++◌}
-use Rattle.std.specs.List.{list_all}
-use Rattle.fpc_terms.specs.Name.{is_small_letter, is_name_byte}
+use Rattle.std.specs.Prelude.{◌≡◌, ℕ, suc, ◌<◌, Bool, true, false, ◌↔◌, List, [], ◌∷◌, ◌++◌}
+pub use Rattle.fpc_terms.specs.Name.{begins_name}
 use Rattle.fpc_terms.specs.Term.{Term, Args, eigen, bound, variable, app, no_args, arg, IsProperTerm}
 use Rattle.fpc_terms.specs.Text.{term_before, plain_leaves}
 use Rattle.polarised_formulas.specs.declared.logic.Logic.{Logic}
@@ -11,11 +10,6 @@ use Rattle.polarised_formulas.specs.declared.logic.Polarity.TheVariants.{Positiv
 use Rattle.polarised_formulas.specs.Formula.{Formula, truth, falsity, atom, conj, disj, implies, for_all, exists, IsProper, IsOfLogic}
 use Rattle.polarised_formulas.specs.Text.{formula_before, plain_style}
 use Rattle.polarised_formulas.specs.PlainReading.{Operator, conjunction, disjunction, implication, is_keyword, whole_term, whole_formula, run, Use, of_term, of_formula, start, IsGoing}
-
--- a small letter, and then letters, digits and `_`
-abbrev pub begins_name : List ℕ → Bool
-begins_name [] = false
-begins_name (b ∷ bs) = is_small_letter b && list_all is_name_byte bs
 
 -- The name's text is a name and no keyword, and the numbering gives the number back. Its length is not limited here.
 abbrev pub IsPlainName : (ℕ → List ℕ) → (List ℕ → ℕ) → ℕ → Type 0

@@ -2,8 +2,9 @@
 use Rattle.std.specs.Prelude.{ℕ, suc, ◌+◌, ◌-◌, ◌*◌, Bool, true, false, if◌then◌else◌, ◌&&◌, nat_eq, nat_lt, List, [], ◌∷◌, ◌++◌, codes, Option, Some, None}
 use Rattle.std.specs.List.{list_any, starts_with}
 use Rattle.std.specs.Str.{bytes_eq}
-use Rattle.fpc_base.specs.Tokens.{is_digit, is_one_of, keywords}
+use Rattle.fpc_base.specs.Tokens.{is_digit}
 use Rattle.fpc_terms.specs.Name.{is_small_letter, is_name_byte}
+pub use Rattle.fpc_terms.specs.Name.{is_keyword}
 use Rattle.fpc_terms.specs.Term.{Term, Args, eigen, bound, app, no_args, arg}
 use Rattle.polarised_formulas.specs.declared.logic.Logic.{Logic}
 use Rattle.polarised_formulas.specs.declared.logic.Logic.TheVariants.{Lkf, Ljf}
@@ -153,10 +154,6 @@ end_term (in_term f ts up) t b =
 end_term (in_atom hs positive f ts) t b =
     if nat_eq b 44 then on (at_term (in_atom hs positive f (t ∷ ts)))
     else if nat_eq b 41 then on (behind_formula hs (atom positive f (args_onto ts (arg t no_args)))) else wrong
-
--- the bytes are a keyword, which is no name
-abbrev pub is_keyword : List ℕ → Bool
-is_keyword w = is_one_of keywords w
 
 -- a byte behind the name of an atom
 abbrev pub end_name : (List ℕ → ℕ) → List Hole → Bool → List ℕ → ℕ → Next

@@ -6,7 +6,7 @@ use Rattle.fpc_base.specs.declared.refusal.Code.TheVariants.{Unexpected, TooDeep
 use Rattle.fpc_base.specs.declared.refusal.TokenRefusal.{TokenRefusal}
 use Rattle.fpc_base.specs.declared.refusal.TokenRefusal.TheVariants.{Refused, OutOfMemory}
 use Rattle.fpc_base.specs.declared.outside.OutOfMemory as outside_world
-use Rattle.fpc_terms.specs.Name.{IsName, is_small_letter}
+use Rattle.fpc_terms.specs.Name.{IsNameBegun, is_small_letter}
 use Rattle.fpc_terms.specs.Term.{Term, app, arg, no_args}
 use Rattle.fpc_terms.specs.Partial.{Frame, Partial, frame, nothing, with_term}
 use Rattle.polarised_formulas.specs.declared.logic.Logic.{Logic}
@@ -173,19 +173,19 @@ formula_at (behind_term up t) = formula_around up
 
 -- a word begun in LKF may become a name
 abbrev pub IsWord : Logic → List ℕ → Type 0
-IsWord Lkf w = IsName w
+IsWord Lkf w = IsNameBegun w
 IsWord Ljf w = Unit {0}
 
--- the name in progress is one, and a term that comes has room
+-- the name in progress may be one, and a term that comes has room
 abbrev pub IsKept : Logic → Reading → Type 0
 IsKept logic (at_formula hs) = Unit {0}
 IsKept logic (in_word hs w) = IsWord logic w
 IsKept logic (at_name hs positive) = Unit {0}
-IsKept logic (in_name hs positive w) = IsName w
+IsKept logic (in_name hs positive w) = IsNameBegun w
 IsKept logic (behind_formula hs f) = Unit {0}
 IsKept logic (in_operator hs a w) = Unit {0}
 IsKept logic (at_term up) = arguments_of up < 255
-IsKept logic (in_function up w) = IsName w × (arguments_of up < 255)
+IsKept logic (in_function up w) = IsNameBegun w × (arguments_of up < 255)
 IsKept logic (at_eigen up) = arguments_of up < 255
 IsKept logic (in_eigen up k) = arguments_of up < 255
 IsKept logic (at_index up) = arguments_of up < 255

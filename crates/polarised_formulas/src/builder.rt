@@ -371,6 +371,7 @@ impl FormulaBuilder {
 mod tests {
     use super::*;
     use fpc_terms::names::Names;
+    use std::process::Abort;
     use std::test::Fail;
 
     /// A positive literal with one argument.
@@ -382,30 +383,57 @@ mod tests {
         }
     }
 
-    /// `(p(a) |- all (q(#0) &+ tt+))`
-    #[test]
-    fn quantifiers_end_with_their_bodies(rt: HostRuntime) -> Result<(), Fail> {
-        let alloc = rt.alloc();
-        let mut names = Names::new(alloc);
-        let p = names.intern(b"p")?;
-        let a = names.intern(b"a")?;
-        let q = names.intern(b"q")?;
-        let mut arguments = TermBuilder::new(alloc);
-        let mut formula = FormulaBuilder::new(alloc);
+    /// `(p(a) |- `
+    fn add_first(
+        formula: &mut FormulaBuilder,
+        arguments: &mut TermBuilder,
+        p: NameId,
+        a: NameId,
+    ) -> Result<(), OutOfMemory> {
         formula.open_pair()?;
         arguments.constant(a)?;
-        formula.literal(true, p, &arguments)?;
+        formula.literal(true, p, arguments)?;
         formula.operator(Joiner::Or(Polarity::Negative));
+        Ok(())
+    }
+
+    /// `all (`
+    fn add_quantifier(formula: &mut FormulaBuilder) -> Result<(), OutOfMemory> {
         formula.quantifier(Binder::ForAll)?;
         formula.open_pair()?;
-        assert_eq!(rt; (formula.depth(), formula.quantifiers()), (3, 1));
+        Ok(())
+    }
+
+    /// `q(#0) &+ tt+))`
+    fn add_second(
+        formula: &mut FormulaBuilder,
+        arguments: &mut TermBuilder,
+        q: NameId,
+    ) -> Result<(), OutOfMemory> {
         arguments.clear();
         arguments.bound(0)?;
-        formula.literal(true, q, &arguments)?;
+        formula.literal(true, q, arguments)?;
         formula.operator(Joiner::And(Polarity::Positive));
         formula.truth(Polarity::Positive)?;
         formula.close();
         formula.close();
+        Ok(())
+    }
+
+    /// Checks `(p(a) |- all (q(#0) &+ tt+))`.
+    fn check_built(
+        rt: &impl Abort,
+        alloc: Global,
+        p: NameId,
+        a: NameId,
+        q: NameId,
+    ) -> Result<(), Fail> {
+        let mut arguments = TermBuilder::new(alloc);
+        let mut formula = FormulaBuilder::new(alloc);
+        add_first(&mut formula, &mut arguments, p, a)?;
+        add_quantifier(&mut formula)?;
+        assert_eq!(rt; (formula.depth(), formula.quantifiers()), (3, 1));
+        add_second(&mut formula, &mut arguments, q)?;
         let nodes = [
             Node::Or(Polarity::Negative),
             literal(p),
@@ -419,6 +447,15 @@ mod tests {
         let whole = formula.finish(alloc)?.ok_or("no formula")?;
         assert_eq!(rt; whole.nodes(), nodes.as_slice());
         Ok(())
+    }
+
+    #[test]
+    fn quantifiers_end_with_their_bodies(rt: HostRuntime) -> Result<(), Fail> {
+        let mut names = Names::new(rt.alloc());
+        let p = names.intern(b"p")?;
+        let a = names.intern(b"a")?;
+        let q = names.intern(b"q")?;
+        check_built(&rt, rt.alloc(), p, a, q)
     }
 
     #[test]

@@ -20,6 +20,7 @@ pub mod reader;
 pub mod scope;
 pub mod shape;
 pub mod step;
+pub mod step_list;
 
 pub use formula::Formula;
 pub use list::Formulas;
@@ -31,3 +32,4 @@ pub use print::{print_formula, print_problem};
 pub use problem::{Problem, read_problem};
 pub use read::read_formula;
 pub use step::Step;
+pub use step_list::StepList;

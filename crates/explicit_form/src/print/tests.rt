@@ -3,10 +3,10 @@ ghost use Rattle.std.specs.Prelude.{length};
 ghost use Rattle.explicit_form.specs.Sizes.{StepsNamedBelow};
 
 use super::*;
-use crate::step_list::StepList;
 use fpc_terms::cell::Cell;
 use polarised_formulas::logic::{Polarity, Side};
 use polarised_formulas::node::Node;
+use polarised_formulas::step_list::StepList;
 use std::process::Abort;
 use std::test::Fail;
 

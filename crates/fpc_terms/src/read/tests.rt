@@ -1,6 +1,8 @@
 //! Terms read, printed and refused.
 use super::*;
 use crate::print::print_term;
+use crate::term::equal;
+use fpc_base::outside::OutOfMemory;
 use std::process::Abort;
 use std::test::Fail;
 
@@ -87,19 +89,42 @@ fn the_256th_argument_is_refused_at_its_comma(rt: HostRuntime) -> Result<(), Fai
     Ok(())
 }
 
-#[test]
-fn a_term_of_a_million_nested_applications_is_read_and_printed(
-    rt: HostRuntime,
-) -> Result<(), Fail> {
-    let alloc = rt.alloc();
+/// A byte in a million applications of `f`.
+fn nested(alloc: Global, innermost: u8) -> Result<Vec<u8>, OutOfMemory> {
     let mut source = Vec::new(alloc);
     for _ in 0..1_000_000 {
         source.extend_from_slice(b"f(")?;
     }
-    source.push(b'a')?;
+    source.push(innermost)?;
     for _ in 0..1_000_000 {
         source.push(b')')?;
     }
+    Ok(source)
+}
+
+/// Reads two terms with one table of names, and tells whether they are the same.
+fn check_equal(rt: &impl Abort, alloc: Global, first: &[u8], second: &[u8], same: bool) {
+    let mut names = Names::new(alloc);
+    let mut vars = VarTable::new(alloc);
+    let mut tokens = Tokens::new(first);
+    let a = read_term(alloc, &mut names, &mut tokens, &mut vars, Some(2));
+    tokens = Tokens::new(second);
+    let b = read_term(alloc, &mut names, &mut tokens, &mut vars, Some(2));
+    match (a, b) {
+        (Ok(a), Ok(b)) => assert_eq!(rt; equal(&a, &b), same),
+        _ => panic!(rt; "refused"),
+    }
+}
+
+#[test]
+fn a_term_of_a_million_nested_applications_is_read_printed_and_compared(
+    rt: HostRuntime,
+) -> Result<(), Fail> {
+    let alloc = rt.alloc();
+    let source = nested(alloc, b'a')?;
     check_read(&rt, alloc, &source, &source, 3_000_001)?;
+    check_equal(&rt, alloc, &source, &source, true);
+    let other = nested(alloc, b'b')?;
+    check_equal(&rt, alloc, &source, &other, false);
     Ok(())
 }

@@ -2,7 +2,7 @@
 ghost use Rattle.std.specs.Prelude.{◌≡◌, ℕ, suc, ◌∷◌, ◌++◌, [], List, Bool, true, false, Some, None, Ok, Err, OnOk, IsTrue, ◌↔◌, ◌<◌, ◌≤◌, length, nat_eq, nat_lt, if◌then◌else◌};
 ghost use Rattle.fpc_base.specs.declared.refusal.Code.TheVariants.{LongName};
 ghost use Rattle.fpc_base.specs.declared.refusal.TokenRefusal.TheVariants.{Refused};
-ghost use Rattle.fpc_terms.specs.Name.{Agrees, Grows, IsName, is_small_letter, is_name_byte};
+ghost use Rattle.fpc_terms.specs.Name.{Agrees, Grows, IsNameBegun, is_small_letter, is_name_byte};
 ghost use Rattle.fpc_terms.specs.Term.{Term, bound, app, no_args};
 ghost use Rattle.polarised_formulas.specs.declared.logic.Logic.{Logic};
 ghost use Rattle.polarised_formulas.specs.declared.logic.Logic.TheVariants.{Lkf, Ljf};
@@ -21,8 +21,8 @@ use crate::connective::{Binder, Joiner};
 use crate::formula::Formula;
 use crate::logic::Logic;
 use crate::plain::reader::words::{
-    Word, begins_operator, begins_word, is_digit, is_keyword, is_name_byte, is_small_letter,
-    operator_with, with_digit, word_with,
+    Word, begins_operator, begins_word, is_digit, is_name_byte, is_small_letter, operator_with,
+    with_digit, word_with,
 };
 use fpc_base::outside::OutOfMemory;
 use fpc_base::refusal::{Code, TokenRefusal};
@@ -148,9 +148,9 @@ fn begins_ljf_with(b: u8) -> Option<Beginning>
 /// The number of a name that was read. Time is logarithmic in the number of names.
 fn name_of(names: &mut Names, word: &[u8]) -> Result<NameId, TokenRefusal>
     ensures grows { Grows names.old names.new }
-    ensures name { (number : List ℕ → ℕ) → Agrees number names.new → IsName word.now → IsNamed number (is_keyword word.now) word.now result }
+    ensures name { (number : List ℕ → ℕ) → Agrees number names.new → IsNameBegun word.now → IsNamed number (is_keyword word.now) word.now result }
 {
-    if is_keyword(word) || !is_name(word) {
+    if !is_name(word) {
         return Err(TokenRefusal::Refused(Code::Unexpected));
     }
     match names.intern(word) {

@@ -108,19 +108,37 @@ fn a_name_has_at_most_255_arguments(rt: HostRuntime) -> Result<(), Fail> {
     Ok(())
 }
 
-/// Each cut of a problem ends too early.
+/// Checks that a text that ends too early is refused, no later than at its end.
+fn check_cut(rt: &impl Abort, alloc: Global, cut: &[u8]) {
+    let mut names = Names::new(alloc);
+    match read_problem(alloc, &mut names, cut) {
+        Err(ParseRefusal::Refused(refusal)) => {
+            assert!(rt; refusal.code == Code::Unexpected || refusal.code == Code::BadByte);
+            assert!(rt; refusal.at <= cut.len());
+        }
+        _ => panic!(rt; "read"),
+    }
+}
+
+/// Checks that each cut of a text ends too early.
+fn check_cuts(rt: &impl Abort, alloc: Global, text: &[u8]) {
+    for end in 0..text.len() {
+        check_cut(rt, alloc, &text[..end]);
+    }
+}
+
 #[test]
 fn cuts_are_refused(rt: HostRuntime) {
     let problems: [&[u8]; 2] = [b"lkf (p |- ~p).", b"lkf all X: (p(X,f(a)) |- tt+)."];
     for problem in problems {
-        for end in 0..problem.len() {
-            let mut names = Names::new(rt.alloc());
-            match read_problem(rt.alloc(), &mut names, &problem[..end]) {
-                Err(ParseRefusal::Refused(refusal)) => {
-                    assert!(rt; refusal.code == Code::Unexpected || refusal.code == Code::BadByte);
-                }
-                _ => panic!(rt; "read"),
-            }
-        }
+        check_cuts(&rt, rt.alloc(), problem);
     }
+}
+
+#[test]
+fn cuts_of_a_long_problem_are_refused(rt: HostRuntime) {
+    let problem: &[u8] =
+        b"lkf (some X : (man(X) &+ ~mortal(X)) |- (some X : (greek(X) &+ ~man(X)) |- (~greek(socrates) |- (some X : (mortal(X) &+ wise(X)) |- ~wise(socrates))))).";
+    check(&rt, rt.alloc(), problem, None);
+    check_cuts(&rt, rt.alloc(), problem);
 }

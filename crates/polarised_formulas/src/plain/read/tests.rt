@@ -119,34 +119,64 @@ fn texts_that_are_cut_off_are_refused_at_their_end(rt: HostRuntime) {
     }
 }
 
+/// Reads the piece many times between others.
+fn expect_repeated(
+    rt: &impl Abort,
+    alloc: Global,
+    logic: Logic,
+    (front, piece, count, back): (&[u8], &[u8], usize, &[u8]),
+    refused: Option<(Code, usize)>,
+) -> Result<(), OutOfMemory> {
+    let text = repeated(alloc, front, piece, count, back)?;
+    match refused {
+        None => expect_accepted(rt, alloc, logic, text.as_slice()),
+        Some((code, at)) => expect_refused(rt, alloc, logic, text.as_slice(), code, at),
+    }
+    Ok(())
+}
+
 #[test]
 fn names_have_255_letters(rt: HostRuntime) -> Result<(), Fail> {
-    let alloc = rt.alloc();
-    let longest = repeated(alloc, b"", b"p", 255, b"")?;
-    expect_accepted(&rt, alloc, Lkf, longest.as_slice());
-    let longer = repeated(alloc, b"", b"p", 256, b"")?;
-    expect_refused(&rt, alloc, Lkf, longer.as_slice(), Code::LongName, 255);
+    let table: [(usize, Option<(Code, usize)>); 2] = [
+        (255, None),
+        (256, Some((Code::LongName, 255))),
+    ];
+    for (count, refused) in table {
+        expect_repeated(&rt, rt.alloc(), Lkf, (b"", b"p", count, b""), refused)?;
+    }
     Ok(())
 }
 
 #[test]
 fn names_have_255_arguments(rt: HostRuntime) -> Result<(), Fail> {
-    let alloc = rt.alloc();
-    let most = repeated(alloc, b"p(a", b",a", 254, b")")?;
-    expect_accepted(&rt, alloc, Lkf, most.as_slice());
-    let more = repeated(alloc, b"p(a", b",a", 255, b")")?;
-    expect_refused(&rt, alloc, Lkf, more.as_slice(), Code::ManyArguments, 511);
+    let table: [(usize, Option<(Code, usize)>); 2] = [
+        (254, None),
+        (255, Some((Code::ManyArguments, 511))),
+    ];
+    for (count, refused) in table {
+        expect_repeated(&rt, rt.alloc(), Lkf, (b"p(a", b",a", count, b")"), refused)?;
+    }
     Ok(())
 }
 
 #[test]
 fn formulas_are_nested_10_000_deep(rt: HostRuntime) -> Result<(), Fail> {
-    let alloc = rt.alloc();
-    let deepest = repeated(alloc, b"", b"all ", 9_999, b"tt+")?;
-    expect_accepted(&rt, alloc, Ljf, deepest.as_slice());
-    let deeper = repeated(alloc, b"", b"all ", 10_000, b"tt+")?;
-    expect_refused(&rt, alloc, Ljf, deeper.as_slice(), Code::TooDeep, 40_000);
+    let table: [(usize, Option<(Code, usize)>); 2] = [
+        (9_999, None),
+        (10_000, Some((Code::TooDeep, 40_000))),
+    ];
+    for (count, refused) in table {
+        expect_repeated(&rt, rt.alloc(), Ljf, (b"", b"all ", count, b"tt+"), refused)?;
+    }
     Ok(())
+}
+
+/// Reads a formula and compares its nodes.
+fn expect_nodes(rt: &impl Abort, alloc: Global, names: &mut Names, text: &[u8], nodes: &[Node]) {
+    match read_plain_formula(alloc, names, Lkf, text) {
+        Ok(formula) => assert_eq!(rt; formula.nodes(), nodes),
+        Err(refusal) => panic!(rt; "{refusal:?}"),
+    }
 }
 
 #[test]
@@ -155,7 +185,6 @@ fn nodes_are_those_of_the_text(rt: HostRuntime) -> Result<(), Fail> {
     let mut names = Names::new(alloc);
     let p = names.intern(b"p")?;
     let a = names.intern(b"a")?;
-    let text = b"all (~p(#0,a) |- tt+)";
     let nodes = [
         Node::ForAll,
         Node::Or(Polarity::Negative),
@@ -168,19 +197,22 @@ fn nodes_are_those_of_the_text(rt: HostRuntime) -> Result<(), Fail> {
         Node::Inside(Cell::App(a, 0)),
         Node::True(Polarity::Positive),
     ];
-    match read_plain_formula(alloc, &mut names, Lkf, text) {
-        Ok(formula) => assert_eq!(rt; formula.nodes(), nodes.as_slice()),
-        Err(refusal) => panic!(rt; "{refusal:?}"),
-    }
+    expect_nodes(&rt, alloc, &mut names, b"all (~p(#0,a) |- tt+)", &nodes);
     Ok(())
+}
+
+/// A literal with so many applications around its only constant.
+fn nested(alloc: Global, count: usize) -> Result<Vec<u8>, OutOfMemory> {
+    let mut text = repeated(alloc, b"p(", b"f(", count, b"a)")?;
+    for _ in 0..count {
+        text.push(b')')?;
+    }
+    Ok(text)
 }
 
 #[test]
 fn a_million_applications_are_read(rt: HostRuntime) -> Result<(), Fail> {
-    let alloc = rt.alloc();
-    let mut text = repeated(alloc, b"p(", b"f(", 1_000_000, b"a")?;
-    let ends = repeated(alloc, b"", b")", 1_000_001, b"")?;
-    text.extend_from_slice(ends.as_slice())?;
-    expect_accepted(&rt, alloc, Lkf, text.as_slice());
+    let text = nested(rt.alloc(), 1_000_000)?;
+    expect_accepted(&rt, rt.alloc(), Lkf, text.as_slice());
     Ok(())
 }

@@ -1,6 +1,6 @@
 //! The words of the plain form, and the bytes of names and numbers.
 ghost use Rattle.std.specs.Prelude.{◌≡◌, ◌&&◌, ◌-◌, if◌then◌else◌, Some, None};
-ghost use Rattle.fpc_base.specs.Tokens.{is_one_of, keywords, is_digit};
+ghost use Rattle.fpc_base.specs.Tokens.{is_digit};
 ghost use Rattle.fpc_terms.specs.Name.{is_small_letter, is_name_byte};
 ghost use Rattle.polarised_formulas.specs.declared.logic.Logic.TheVariants.{Lkf, Ljf};
 ghost use Rattle.polarised_formulas.specs.PlainReading.{first_with, begins_some, word_text, words, link_text, operators, can_grow, grown};
@@ -34,18 +34,6 @@ pub(crate) fn is_name_byte(b: u8) -> bool
     ensures { result ≡ is_name_byte b }
 {
     is_small_letter(b) || b >= b'A' && b <= b'Z' || b >= b'0' && b <= b'9' || b == b'_'
-}
-
-/// Whether a name is taken by the languages of formulas, problems and certificates.
-pub(crate) fn is_keyword(text: &[u8]) -> bool
-    ensures { result ≡ is_one_of keywords text.now }
-{
-    text == b"all".as_slice()
-        || text == b"some".as_slice()
-        || text == b"tt".as_slice()
-        || text == b"ff".as_slice()
-        || text == b"formula".as_slice()
-        || text == b"certificate".as_slice()
 }
 
 /// The word with these bytes, if any.

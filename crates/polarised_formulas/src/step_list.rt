@@ -1,8 +1,8 @@
 //! Lists of steps.
 ghost use Rattle.std.specs.Prelude.{◌≡◌, ◌<◌, ◌++◌, ◌∷◌, [], OnOk, OnErr, Some, length, slice_get};
 
+use crate::step::Step;
 use fpc_base::outside::OutOfMemory;
-use polarised_formulas::step::Step;
 use std::alloc::Global;
 use std::marker::Model;
 
