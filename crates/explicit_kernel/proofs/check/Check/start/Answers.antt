@@ -5,7 +5,7 @@ use Rattle.explicit_kernel.proofs.check.Check.start.Goals as goal
 
 pub returns-clause-come : goal.returns-clause-come
 returns-clause-come c = λ names. record {
-  read = c.new.ensures names;
+  read = c.new.ensures.read names;
   course = λ number agrees. ap₂ (λ q n. going start q n) (sym c.in_ok-start.ensures.pending) (sym c.in_ok-start.ensures.fitted);
   low = c.in_ok-start.ensures.low;
   few = omega (arith, c.in_ok-start.ensures.fitted);
