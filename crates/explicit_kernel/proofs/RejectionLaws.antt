@@ -23,8 +23,8 @@ use Rattle.explicit_form.proofs.Taking.{step_with-none, is_whole-none, is_whole-
 use Rattle.explicit_form.proofs.Refusals.{untold-go, untold-more, untold-going}
 use Rattle.explicit_kernel.specs.Judgment.{accepted, rejected, refused, Course, going, judged, closing, playing, fitting, judging, advance, course_of, at_end, judgment}
 use Rattle.explicit_kernel.specs.JudgmentLaws.{WhyRejected, unfit, unfinished, IsRejectedAt, RejectedAtLine, RejectedBegins}
-use Rattle.explicit_kernel.proofs.Courses.{played-none}
-use Rattle.explicit_kernel.proofs.Standing.{apart, Stands, Turn, goes, tells, misses, leaves, Shows, still, here, shows, stands-still, judged-at, steps-none, steps-some, untold-parts, untold-front, whole-end}
+use Rattle.explicit_kernel.proofs.Courses.{played-none, nothing-behind}
+use Rattle.explicit_kernel.proofs.Standing.{apart, Stands, Turn, goes, tells, misses, leaves, Shows, still, here, shows, stands-still, judged-at, steps-none, steps-some, untold-parts, untold-front}
 
 -- a line end is no byte inside a line
 not_inside : nat_eq 10 10 ≡ false → ⊥
@@ -163,7 +163,7 @@ module _ (number : List ℕ → ℕ) (goal : Formula) (bytes : List ℕ) (k plac
 
       open_before : (c : Bool) → is_whole st ≡ c → is_whole st ≡ false
       open_before false w = w
-      open_before true w = let e = whole-end number st (length h.front) (10 ∷ []) w (none, tt) in let no : ⊥ = cc (e) in absurd no
+      open_before true w = let e = nothing-behind number st (length h.front) (10 ∷ []) w (none, tt) in let no : ⊥ = cc (e) in absurd no
 
       before : steps_of st ≡ h.steps → course_of number goal h.front ≡ going st h.pending (length h.steps)
       before e =

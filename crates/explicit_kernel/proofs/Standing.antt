@@ -16,7 +16,7 @@ use Rattle.explicit_form.proofs.Forward.{run-append}
 use Rattle.explicit_form.proofs.Taking.{done_of-going, is_whole-step}
 use Rattle.explicit_form.proofs.Refusals.{untold-go, untold-more}
 use Rattle.explicit_kernel.specs.Judgment.{Judgment, rejected, refused, Course, going, judged, in_front, played, closing, playing, fitting, judging, advance, course, begin, course_of, at_end, judgment}
-use Rattle.explicit_kernel.proofs.Courses.{played-plays, course-judged, course-append}
+use Rattle.explicit_kernel.proofs.Courses.{played-plays, course-judged, course-append, nothing-behind}
 
 pub apart : (c : Bool) → c ≡ false → c ≡ true → ⊥
 apart true f t = cc
@@ -108,15 +108,6 @@ module _ (number : List ℕ → ℕ) where
   pub untold-front : (front more : List ℕ) (st : State) (place : ℕ) → AreUntold number Lkf st place (front ++ more) → AreUntold number Lkf st place front
   untold-front [] more st place h = tt
   untold-front (b ∷ front) more st place h = (h.0, untold-front front more (go number Lkf st b) (suc place) h.1)
-
-  -- behind the last line something is told of any byte
-  pub whole-end : (st : State) (place : ℕ) (bytes : List ℕ) → is_whole st ≡ true → AreUntold number Lkf st place bytes → bytes ≡ []
-  whole-end st place [] w h = refl
-  whole-end (ended done) place (b ∷ bytes) w h = absurd (untold-go number Lkf place (ended done) stuck h.0)
-  whole-end (heading v) place (b ∷ bytes) w h = cc
-  whole-end (reading done l) place (b ∷ bytes) w h = cc
-  whole-end mistaken place (b ∷ bytes) w h = cc
-  whole-end stuck place (b ∷ bytes) w h = cc
 
 module _ (number : List ℕ → ℕ) (goal : Formula) where
   pub turn : (place : ℕ) (st : State) (q : List Levelled) (n b : ℕ) → Stands goal st q n → Turn number goal place st q n b (advance number place (going st q n) b)
@@ -231,7 +222,7 @@ module _ (number : List ℕ → ℕ) (goal : Formula) where
               let first = Plays-first p between.0 s [] (Plays-after (start_of goal) p between.0 (steps_of st) (s ∷ []) i.plays_to between.1) in
               unfit first.0 first.1
           turned _ (leaves e w whole open_list) f =
-              let empty = whole-end number next (suc (0 + length front)) more whole parts.1 in
+              let empty = nothing-behind number next (suc (0 + length front)) more whole parts.1 in
               let same_state : run number Lkf start (front ++ b ∷ more) ≡ next = last ∙ ap (run number Lkf next) empty in
               let closed : q ≡ [] = k.closed (ap is_whole same_state ∙ whole) in
               let steps : steps_of (run number Lkf start (front ++ b ∷ more)) ≡ steps_of st = ap steps_of same_state ∙ steps-none number (length front) st b e w in
