@@ -7,7 +7,7 @@ ghost use Rattle.polarised_formulas.specs.declared.step.Step.{Step};
 ghost use Rattle.explicit_form.specs.StepReading.{Line, in_word, at_place, in_place, in_plain, next, behind_word, placed_step, bare_step, in_line, use_of, with_term, with_formula};
 ghost use Rattle.explicit_form.specs.LineStanding.{Stands, IsNext, next_unnamed, plain_start, stepped};
 
-use crate::word::{Bare, Placed, Word, Written};
+use crate::word::{Placed, Word, Written, bare_step, placed_step};
 use crate::words::{begins_word, is_digit, with_digit, word_with};
 use fpc_base::outside::OutOfMemory;
 use fpc_base::refusal::{Code, TokenRefusal};
@@ -211,56 +211,6 @@ fn step_with_formula(written: Written, formula: Formula) -> Option<Step>
     match written {
         Written::Exists | Written::FocLEvery | Written::FocRExists => None,
         Written::Cut => Some(Step::Cut(formula)),
-    }
-}
-
-/// The step with a place.
-fn placed_step(placed: Placed, place: u64) -> Step
-    ensures { result ≡ placed_step placed place }
-{
-    match placed {
-        Placed::Decide => Step::Decide(place),
-        Placed::Init => Step::Init(place),
-        Placed::DecideL => Step::DecideL(place),
-        Placed::FocRInit => Step::FocRInit(place),
-    }
-}
-
-/// The step without an argument.
-fn bare_step(bare: Bare) -> Step
-    ensures { result ≡ bare_step bare }
-{
-    match bare {
-        Bare::TrueN => Step::TrueN,
-        Bare::FalseN => Step::FalseN,
-        Bare::OrN => Step::OrN,
-        Bare::AndN => Step::AndN,
-        Bare::Every => Step::Every,
-        Bare::Store => Step::Store,
-        Bare::TrueP => Step::TrueP,
-        Bare::AndP => Step::AndP,
-        Bare::OrP(side) => Step::OrP(side),
-        Bare::Release => Step::Release,
-        Bare::LTrue => Step::LTrue,
-        Bare::LFalse => Step::LFalse,
-        Bare::LAnd => Step::LAnd,
-        Bare::LOr => Step::LOr,
-        Bare::LExists => Step::LExists,
-        Bare::LStore => Step::LStore,
-        Bare::RTrue => Step::RTrue,
-        Bare::RAnd => Step::RAnd,
-        Bare::RImp => Step::RImp,
-        Bare::REvery => Step::REvery,
-        Bare::RStore => Step::RStore,
-        Bare::DecideR => Step::DecideR,
-        Bare::FocLAnd(side) => Step::FocLAnd(side),
-        Bare::FocLImp => Step::FocLImp,
-        Bare::FocLInit => Step::FocLInit,
-        Bare::FocLRelease => Step::FocLRelease,
-        Bare::FocRTrue => Step::FocRTrue,
-        Bare::FocRAnd => Step::FocRAnd,
-        Bare::FocROr(side) => Step::FocROr(side),
-        Bare::FocRRelease => Step::FocRRelease,
     }
 }
 

@@ -5,7 +5,7 @@ ghost use Rattle.fpc_terms.specs.Printing.{HasNamesBelow};
 ghost use Rattle.polarised_formulas.specs.Text.{plain_text};
 ghost use Rattle.polarised_formulas.specs.Printing.{AllNamesBelow};
 ghost use Rattle.std.specs.Fmt.{decimal};
-ghost use Rattle.explicit_form.specs.StepText.{header_text, argument_before, line_before, certificate_text};
+ghost use Rattle.explicit_form.specs.StepText.{argument_before, line_before, certificate_text};
 ghost use Rattle.explicit_form.specs.StepLimits.{most_bytes};
 ghost use Rattle.explicit_form.specs.Sizes.{StepNamedBelow, StepsNamedBelow};
 ghost use Rattle.explicit_form.specs.declared.print.PrintRefusal.TheVariants.{TooLong};
@@ -15,6 +15,7 @@ mod tests;
 
 use crate::size::certificate_size;
 use crate::word::{Word, step_word, word_bytes};
+use crate::words::header_line;
 use fpc_base::outside::OutOfMemory;
 use fpc_terms::names::Names;
 use fpc_terms::print::print_term;
@@ -102,21 +103,12 @@ fn push_steps(
     ensures { IfOk result (λ text. text.items ≡ certificate_text (name_in names.now) logic steps.now) }
 {
     let mut out = Vec::new(alloc);
-    out.extend_from_slice(header(logic))?;
+    out.extend_from_slice(header_line(logic))?;
     for step in steps {
         push_step(alloc, names, logic, step, &mut out)?;
     }
     out.extend_from_slice(word_bytes(Word::End))?;
     Ok(out)
-}
-
-fn header(logic: Logic) -> &'static [u8]
-    ensures { result.now ≡ header_text logic }
-{
-    match logic {
-        Logic::Lkf => b"fpc 1 lkf\n",
-        Logic::Ljf => b"fpc 1 ljf\n",
-    }
 }
 
 /// Puts the line of a step behind other bytes.

@@ -1,16 +1,16 @@
 //! Which terms and formulas a step may bring in at a level.
-ghost use Rattle.std.specs.Prelude.{◌≡◌, ℕ, List, [], ◌∷◌, OnOk, IfOk};
+ghost use Rattle.std.specs.Prelude.{◌≡◌, OnOk, IfOk};
 ghost use Rattle.std.specs.List.{list_all};
-ghost use Rattle.polarised_formulas.specs.Opened.{deeper, parts_at, first_or, later, depth_after, pending_after};
+ghost use Rattle.polarised_formulas.specs.Opened.{depth_after, pending_after};
 ghost use Rattle.lkf_rules.specs.Scope.{is_scoped, is_scoped_cell, is_cut_node, may_be_cut};
 
 use fpc_base::outside::OutOfMemory;
 use fpc_terms::cell::Cell;
 use fpc_terms::term::TermBuf;
+use polarised_formulas::depths::Depths;
 use polarised_formulas::formula::Formula;
 use polarised_formulas::node::Node;
 use std::alloc::Global;
-use std::marker::Model;
 
 /// Whether the cell may stand at a level in a term under so many quantifiers.
 fn is_scoped_cell(cell: Cell, level: u64, depth: u64) -> bool
@@ -55,72 +55,6 @@ fn is_cut_node(node: Node, level: u64, depth: u64) -> bool
         | Node::ForAll
         | Node::Exists => true,
     }
-}
-
-/// The depths of the formulas still to come, the next one first. A depth counts the quantifiers around a formula.
-#[derive(Drop)]
-struct Depths {
-    items: Vec<u64>,
-}
-
-impl Model for Depths {
-    ghost use Rattle.std.specs.Prelude.{ℕ, List, reverse};
-    ghost use Rattle.std.specs.Coded.{coded_list, coded_ℕ};
-
-    ghost Value = { List ℕ };
-
-    ghost coded = { coded_list coded_ℕ };
-
-    ghost view = { λ d. reverse d.items.items };
-}
-
-impl Depths {
-    fn new(alloc: Global) -> Depths
-        ensures { result ≡ [] }
-    {
-        Depths {
-            items: Vec::new(alloc),
-        }
-    }
-
-    fn push(&mut self, depth: u64) -> Result<(), OutOfMemory>
-        ensures { OnOk result (self.new ≡ depth ∷ self.old) }
-    {
-        self.items.push(depth)?;
-        Ok(())
-    }
-
-    /// Takes the next depth out, or gives the other one where there is none.
-    fn take_next(&mut self, otherwise: u64) -> u64
-        ensures next { result ≡ first_or otherwise self.old }
-        ensures others { self.new ≡ later self.old }
-    {
-        match self.items.pop() {
-            Some(depth) => depth,
-            None => otherwise,
-        }
-    }
-
-    /// Puts the depths of the parts of a node at a depth in front. A formula in memory has fewer quantifiers than the type has numbers.
-    fn push_parts(&mut self, node: &Node, depth: u64) -> Result<(), OutOfMemory>
-        ensures { OnOk result (self.new ≡ parts_at node.now depth self.old) }
-    {
-        match *node {
-            Node::And(_) | Node::Or(_) | Node::Implies => {
-                self.push(depth)?;
-                self.push(depth)
-            }
-            Node::ForAll | Node::Exists => self.push(one_deeper(depth)),
-            Node::True(_) | Node::False(_) | Node::Atom { .. } | Node::Inside(_) => Ok(()),
-        }
-    }
-}
-
-/// The depth below one more quantifier. A formula in memory has fewer quantifiers than the type has numbers.
-fn one_deeper(depth: u64) -> u64
-    ensures { result ≡ deeper depth }
-{
-    depth.saturating_add(1)
 }
 
 /// A walk over a formula's nodes.

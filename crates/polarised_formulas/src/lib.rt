@@ -4,6 +4,7 @@
 mod bound;
 pub mod builder;
 pub mod connective;
+pub mod depths;
 pub mod dual;
 pub mod formula;
 pub mod laws;
