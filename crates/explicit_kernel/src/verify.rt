@@ -63,6 +63,7 @@ fn verify_through<S: Source, L: Ledger>(
     ensures reason { IfErr result (HasReason (S.faults source.old) (S.faults source.new)) }
     ensures never_falls { S.faults source.old ≤ S.faults source.new }
     ensures content { S.content source.new ≡ S.content source.old }
+    ensures opened { S.opened source.new ≡ S.opened source.old }
     ensures calls { S.calls source.new ≤ S.calls source.old + 67_108_864 + 1 }
     ensures grows { Grows names.old names.new }
 {
@@ -112,6 +113,7 @@ pub fn verify<S: Source, L: Ledger>(
     ensures reason { IfErr result (HasReason (S.faults source.old) (S.faults source.new)) }
     ensures never_falls { S.faults source.old ≤ S.faults source.new }
     ensures content { S.content source.new ≡ S.content source.old }
+    ensures opened { S.opened source.new ≡ S.opened source.old }
     ensures calls { S.calls source.new ≤ S.calls source.old + 67_108_864 + 1 }
     ensures grows { Grows names.old names.new }
 {

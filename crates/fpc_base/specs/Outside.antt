@@ -1,5 +1,5 @@
 -- What sources and sinks are told to do: counts of faults, bytes that move, contents of files.
-use Rattle.std.specs.Prelude.{◌≡◌, ℕ, ◌+◌, ◌^◌, ◌-◌, ◌≤◌, ◌<◌, min, List, [], ◌++◌, length, Option, Some, None}
+use Rattle.std.specs.Prelude.{◌≡◌, ℕ, ◌+◌, ◌^◌, ◌-◌, ◌≤◌, ◌<◌, min, List, [], ◌∷◌, ◌++◌, length, Option, Some, None}
 
 -- what is told of a file: nothing, that there is none, or its bytes
 pub data Content : Type 0 where
@@ -44,6 +44,12 @@ abbrev pub IsAtStartOf : Content → Option (List ℕ) → Type 0
 IsAtStartOf untold left = Unit {0}
 IsAtStartOf missing left = ⊥
 IsAtStartOf (holds bytes) left = left ≡ Some bytes
+
+-- a name was added to those of the files that were opened, where these are told; what isn't told stays so
+abbrev pub Opens : Option (List (List ℕ)) → List ℕ → Option (List (List ℕ)) → Type 0
+Opens None name now = now ≡ None
+Opens (Some before) name None = ⊥
+Opens (Some before) name (Some now) = now ≡ before ++ name ∷ []
 
 -- the piece was added to what a sink took, where that is told; what isn't told stays so
 abbrev pub Adds : Option (List ℕ) → List ℕ → Option (List ℕ) → Type 0

@@ -1,6 +1,6 @@
 //! What the program reads from and writes to.
 ghost use Rattle.std.specs.Prelude.{◌≡◌, ℕ, ◌+◌, ◌<◌, ◌≤◌, ◌⊎◌, List, Option, Some, None, take, length, OnOk, OnErr, IfOk};
-ghost use Rattle.fpc_base.specs.Outside.{Content, untold, missing, Rose, TakesFront, IsAtEnd, IsAtStartOf, Adds};
+ghost use Rattle.fpc_base.specs.Outside.{Content, untold, missing, Rose, TakesFront, IsAtEnd, IsAtStartOf, Opens, Adds};
 
 use std::alloc::{AllocError, AllocFailed};
 
@@ -26,6 +26,7 @@ impl<T: Drop> From<AllocFailed<T>> for OutOfMemory {
 
 /// Where bytes come from. `faults` counts its failures and never falls; at its last value, the greatest `u64`, it
 /// stands still. `left` has the bytes still to come and `content` the files by name, each where the source tells it;
+/// `opened` has the names of the files that calls of `open` have asked for so far, one after the other, where they are told;
 /// `calls` bounds the number of calls so far for a source that counts them.
 pub trait Source {
     ghost faults: { Self → ℕ };
@@ -33,6 +34,8 @@ pub trait Source {
     ghost left: { Self → Option (List ℕ) } = { λ _. None };
 
     ghost content: { Self → List ℕ → Content } = { λ _ _. untold };
+
+    ghost opened: { Self → Option (List (List ℕ)) } = { λ _. None };
 
     ghost calls: { Self → ℕ } = { λ _. 0 };
 
@@ -47,6 +50,7 @@ pub trait Source {
         ensures end { IfOk result (λ n. n ≡ 0 → IsAtEnd (left self.old)) }
         ensures none_taken { OnErr result (left self.new ≡ left self.old) }
         ensures content { content self.new ≡ content self.old }
+        ensures opened { opened self.new ≡ opened self.old }
         ensures calls { calls self.new ≤ calls self.old + 1 };
 }
 
@@ -59,6 +63,7 @@ pub trait Files: Source {
         ensures failed { OnErr result (Rose (Self.faults self.old) (Self.faults self.new) ⊎ (Self.content self.old name.now ≡ missing)) }
         ensures opened { OnOk result (IsAtStartOf (Self.content self.old name.now) (Self.left self.new)) }
         ensures content { Self.content self.new ≡ Self.content self.old }
+        ensures named { Opens (Self.opened self.old) name.now (Self.opened self.new) }
         ensures calls { Self.calls self.new ≤ Self.calls self.old + 1 };
 }
 

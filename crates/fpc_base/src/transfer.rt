@@ -22,6 +22,7 @@ fn read_piece<S: Source>(src: &mut S, buffer: &mut [u8], most: usize) -> Result<
     ensures end { IfOk result (λ n. n ≡ 0 → IsAtEnd (S.left src.old)) }
     ensures none_taken { OnErr result (S.left src.new ≡ S.left src.old) }
     ensures content { S.content src.new ≡ S.content src.old }
+    ensures opened { S.opened src.new ≡ S.opened src.old }
     ensures calls { S.calls src.new ≤ S.calls src.old + 1 }
 {
     let (front, _) = buffer.split_at_mut(most);
@@ -48,6 +49,7 @@ fn read_through<S: Source>(
     ensures taken { OnErr result (TakesAtMost (limit + 1) (S.left src.old) (S.left src.new)) }
 
     ensures content { S.content src.new ≡ S.content src.old }
+    ensures opened { S.opened src.new ≡ S.opened src.old }
     ensures calls { S.calls src.new ≤ S.calls src.old + limit + 1 }
 {
     let mut bytes = Vec::new(alloc);
@@ -81,6 +83,7 @@ pub fn read_all<S: Source>(alloc: Global, src: &mut S, limit: usize) -> Result<V
     ensures taken { OnErr result (TakesAtMost (limit + 1) (S.left src.old) (S.left src.new)) }
 
     ensures content { S.content src.new ≡ S.content src.old }
+    ensures opened { S.opened src.new ≡ S.opened src.old }
     ensures calls { S.calls src.new ≤ S.calls src.old + limit + 1 }
 {
     match vec![in alloc; 0u8; PIECE] {

@@ -15,6 +15,7 @@ loop-names-init g c = (
   omega (arith, c.in-Ok.ensures.fitted),
   refl,
   refl,
+  refl,
 )
 
 pub returns-in-Ok-finish-clause-judged : goal.returns-in-Ok-finish-clause-judged
@@ -61,6 +62,7 @@ loop-names-preserved g c =
       omega (arith, c.in-Ok-take_piece.ensures.ticks, c.loop-names.invariant.2),
       cc (c.in-Ok-read.ensures.ok_count, c.loop-names.invariant.3),
       cc (c.in-Ok-read.ensures.content, c.loop-names.invariant.4),
+      cc (c.in-Ok-read.ensures.opened, c.loop-names.invariant.5),
     )
 
 pub returns-in-Err-take_piece-clause-judged : goal.returns-in-Err-take_piece-clause-judged

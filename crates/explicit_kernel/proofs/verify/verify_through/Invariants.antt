@@ -11,6 +11,7 @@ invariant-loop-names g l =
     × (l.steps ≡ l.initial.steps + l.check.play.fitted)
     × (g.S.Source.faults l.source ≡ g.S.Source.faults l.initial.source)
     × (g.S.Source.content l.source ≡ g.S.Source.content l.initial.source)
+    × (g.S.Source.opened l.source ≡ g.S.Source.opened l.initial.source)
 
 abbrev pub decreases-loop-names : goal.decreases-loop-names
 decreases-loop-names g l = 67108865 - l.check.reader.at

@@ -8,6 +8,7 @@ invariant-loop-bytes g l =
     × (g.S.Source.faults l.src ≡ g.S.Source.faults l.initial.src)
     × (g.S.Source.content l.src ≡ g.S.Source.content l.initial.src)
     × (g.S.Source.calls l.src ≤ g.S.Source.calls l.initial.src + vec_len l.bytes)
+    × (g.S.Source.opened l.src ≡ g.S.Source.opened l.initial.src)
 
 abbrev pub decreases-loop-bytes : goal.decreases-loop-bytes
 decreases-loop-bytes g l = l.limit + 1 - vec_len l.bytes
