@@ -19,7 +19,8 @@ use Rattle.explicit_form.specs.declared.step_reader.StepFault.{StepFault}
 use Rattle.explicit_form.specs.declared.step_reader.StepFault.TheVariants.{Refused as ReaderRefused, OutOfMemory as ReaderNoMemory}
 use Rattle.explicit_form.proofs.Refusals.{untold-outcome}
 use Rattle.explicit_kernel.specs.Judgment.{Judgment, accepted, rejected, refused, Course, going, judged, at_end, course_of, judgment}
-use Rattle.explicit_kernel.specs.Check.{HasCome, IsUnderWay, IsStopped, IsFinal, stop_of, IsShown, IsJudged, IsRight, IsAnswerTo}
+use Rattle.explicit_kernel.specs.Check.{HasCome, IsStopped, IsFinal, stop_of, IsAnswerTo}
+use Rattle.explicit_kernel.specs.Verdict.{IsJudged, IsRight}
 use Rattle.explicit_kernel.proofs.JudgmentLaws.{accepted_is_spelled}
 use Rattle.explicit_kernel.specs.declared.check.Check as check
 use Rattle.explicit_kernel.specs.declared.check.Stop.{Stop}

@@ -1,4 +1,4 @@
--- What the check of a certificate answers, by the bytes that it took.
+-- A certificate that is being checked.
 use Rattle.std.specs.Prelude.{◌≡◌, ◌≢◌, ◌⊎◌, ℕ, ◌+◌, ◌≤◌, Bool, true, false, List, [], ◌++◌, length, take, Option, Result, Ok, Err}
 use Rattle.fpc_base.specs.Outside.{Rose, TakesFront, IsAtEnd}
 use Rattle.fpc_base.specs.declared.refusal.Refusal.{Refusal}
@@ -86,38 +86,8 @@ IsFinal names goal bytes c (Err (StopsRejected k)) = ⊥
 IsFinal names goal bytes c (Err (StopsRefused r)) = (r.at ≡ length bytes) × ((number : List ℕ → ℕ) → Agrees number names → judgment number goal bytes ≡ refused r c.play.fitted)
 IsFinal names goal bytes c (Err StopsNoMemory) = Unit {0}
 
--- the most bytes that are taken behind the one that decides
-abbrev pub most_ahead : ℕ
-most_ahead = 65536
-
--- What the bytes taken have shown, their number, what is left of the source, and the ticks of steps before and now tell the answer.
-abbrev pub IsShown : Course → ℕ → Option (List ℕ) → ℕ → ℕ → Result Verdict VerifyRefusal → Type 0
-IsShown c taken left before now (Ok (Accepted n)) = (at_end taken c ≡ accepted n) × IsAtEnd left × (now ≡ before + n)
-IsShown c taken left before now (Ok (Rejected k)) = (place : ℕ) × ((c ≡ judged (rejected k place)) × (taken ≤ place + 1 + most_ahead) × (now + 1 ≡ before + k))
-IsShown c taken left before now (Err (Refused r)) =
-    (fitted : ℕ) × ((at_end taken c ≡ refused r fitted) × (IsAtEnd left ⊎ (c ≡ judged (refused r fitted))) × (taken ≤ r.at + 1 + most_ahead) × (now ≡ before + fitted))
-IsShown c taken left before now (Err ReadFault) = (st : State) × ((q : List Levelled) × ((n : ℕ) × ((c ≡ going st q n) × (now ≡ before + n))))
-IsShown c taken left before now (Err OutOfMemory) = Unit {0}
-
--- Some bytes were taken from the front of a source, and they show the answer of a certificate for the goal, by each numbering that agrees with the table of names.
-pub record IsJudged (names : List (List ℕ)) (goal : Formula) (old new : Option (List ℕ)) (before now : ℕ) (answer : Result Verdict VerifyRefusal) : Type 0 where
-  pub bytes : List ℕ
-  pub taken : TakesFront old bytes new
-  pub shown : (number : List ℕ → ℕ) → Agrees number names → IsShown (course_of number goal bytes) (length bytes) new before now answer
-
 -- the answer where the check stopped
 abbrev pub IsAnswerTo : Stop → Result Verdict VerifyRefusal → Type 0
 IsAnswerTo (StopsRejected k) answer = answer ≡ Ok (Rejected k)
 IsAnswerTo (StopsRefused r) answer = answer ≡ Err (Refused r)
 IsAnswerTo StopsNoMemory answer = answer ≡ Err OutOfMemory
-
--- a goal that is accepted in so many steps has a spelling of them, and is derivable
-abbrev pub IsRight : Formula → Verdict → Type 0
-IsRight goal (Accepted n) = HasSpelling goal n × IsDerivable goal
-IsRight goal (Rejected k) = Unit {0}
-
--- why there is no verdict, by the counts of faults before and now
-abbrev pub HasReason : ℕ → ℕ → VerifyRefusal → Type 0
-HasReason before now (Refused r) = now ≡ before
-HasReason before now ReadFault = Rose before now
-HasReason before now OutOfMemory = now ≡ before

@@ -14,7 +14,7 @@ use Rattle.lkf_rules.specs.Certificate.{IsSpelling}
 use Rattle.lkf_rules.specs.Play.{PlaysOne, Plays, start_of}
 use Rattle.explicit_form.specs.StepText.{BeginsCertificate, IsCertificate}
 use Rattle.explicit_form.specs.StepReading.{State, start, go, run, steps_of}
-use Rattle.explicit_form.specs.StepLimits.{most_bytes, fault, outcome, refused as told, FitSteps, AreUntold}
+use Rattle.explicit_form.specs.StepLimits.{most_bytes, fault, outcome, refused as outcome_refused, FitSteps, AreUntold}
 use Rattle.explicit_form.specs.Feeding.{is_whole}
 use Rattle.explicit_kernel.specs.Judgment.{Judgment, accepted, rejected, refused, judged, course_of, judgment}
 
@@ -72,9 +72,9 @@ pub data WhyRefusedBehind (number : List ℕ → ℕ) (front : List ℕ) : List 
   -- it is told of the next byte
   at_byte : (b : ℕ) (more : List ℕ) (r : Refusal) → fault (length front) (run number Lkf start front) (go number Lkf (run number Lkf start front) b) ≡ Some r → WhyRefusedBehind number front (b ∷ more) r
 
--- The bytes are refused so before a line is rejected: nothing is told of those in front, the steps whose lines end there fit, so many of them, and where the last line ends there they leave no sequent.
+-- The bytes are refused so before a line is rejected: nothing is told of the front, the steps whose lines end in it are so many and fit, and where the front ends with the last line no sequent is left.
 pub record IsRefusedFirst (number : List ℕ → ℕ) (goal : Formula) (bytes : List ℕ) (r : Refusal) (n : ℕ) : Type 0 where
-  pub is_told : outcome number Lkf start 0 bytes ≡ told r
+  pub is_told : outcome number Lkf start 0 bytes ≡ outcome_refused r
   pub front : List ℕ
   pub rest : List ℕ
   pub parts : front ++ rest ≡ bytes

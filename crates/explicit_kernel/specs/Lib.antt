@@ -4,5 +4,6 @@ pub mod Naming
 pub mod Pending
 pub mod Progress
 pub mod Check
+pub mod Verdict
 pub mod Judgment
 pub mod JudgmentLaws

@@ -19,7 +19,7 @@ use polarised_formulas::logic::Logic;
 use std::alloc::Global;
 use std::sync::ledger::Ledger;
 
-/// Why the check stops before the end of the bytes.
+/// Why the check stops.
 #[derive(Clone, Copy)]
 pub(crate) enum Stop {
     /// The step with this number is rejected.

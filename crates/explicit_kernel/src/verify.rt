@@ -3,7 +3,8 @@ ghost use Rattle.std.specs.Prelude.{◌≡◌, ℕ, ◌+◌, ◌≤◌, List, le
 ghost use Rattle.fpc_terms.specs.Name.{Grows};
 ghost use Rattle.polarised_formulas.specs.Formula.{IsClosed, IsLkf};
 ghost use Rattle.polarised_formulas.specs.declared.logic.Logic.TheVariants.{Lkf};
-ghost use Rattle.explicit_kernel.specs.Check.{IsJudged, IsRight, HasReason, IsAnswerTo};
+ghost use Rattle.explicit_kernel.specs.Check.{IsAnswerTo};
+ghost use Rattle.explicit_kernel.specs.Verdict.{IsJudged, IsRight, HasReason};
 
 use crate::check::{Check, Stop};
 use fpc_base::outside::{Failed, Source};
@@ -30,7 +31,7 @@ pub enum Verdict {
 /// Why there is no verdict.
 #[derive(Clone, Copy, PartialEq, Eq, Debug)]
 pub enum VerifyRefusal {
-    /// The bytes are no explicit certificate of the calculus.
+    /// The bytes are no explicit certificate of the calculus, or none within the limits.
     Refused(Refusal),
     /// A read failed, and the bytes before show neither a refusal nor a rejection.
     ReadFault,
