@@ -1,5 +1,5 @@
 -- The words and the contents of the files have one answer.
-use Rattle.std.proofs.Common.{◌∷◌, ◌≡◌, ◌≢◌, not, ◌⊎◌, ℕ, ◌≤◌, ◌<◌, List, [], ◌++◌, length, Option, refl, sym, ap, ◌∙◌, subst, arith, inl, inr, true}
+use Rattle.std.proofs.Common.{◌∷◌, ◌≡◌, ◌≢◌, not, ◌⊎◌, ℕ, ◌≤◌, List, [], ◌++◌, length, Option, refl, sym, ap, ◌∙◌, subst, arith, inl, inr, true}
 use Rattle.std.proofs.lemmas.Bool.{and_parts}
 use Rattle.fpc_base.specs.Lexeme.{items_of}
 use Rattle.fpc_base.specs.Outside.{Content, untold, missing, holds, Rose}
@@ -12,20 +12,22 @@ use Rattle.polarised_formulas.specs.Spoken.{Says}
 use Rattle.polarised_formulas.proofs.Named.{EachName-said}
 use Rattle.polarised_formulas.proofs.Passed.{IsRead-read}
 use Rattle.fpc_base.specs.declared.tokens.TokenKind.TheVariants.{Name}
+use Rattle.fpc_base.specs.declared.refusal.Code.TheVariants.{NotBuilt}
 use Rattle.fpc_base.specs.declared.refusal.Refusal.{Refusal}
 use Rattle.polarised_formulas.specs.Numbering.{number_in, text_in}
 use Rattle.polarised_formulas.proofs.Numberings.{GivesBack-number_in, Agrees-number_in}
 use Rattle.polarised_formulas.specs.Place.{ProblemLimits}
-use Rattle.polarised_formulas.specs.Written.{WrittenFormula, true_unit, false_unit, literal, pair, bind, IsProblem, formula_meant}
+use Rattle.polarised_formulas.specs.declared.logic.Logic.TheVariants.{Lkf, Ljf}
+use Rattle.polarised_formulas.specs.Written.{WrittenFormula, true_unit, false_unit, literal, pair, bind, WrittenProblem, IsProblem, formula_meant}
 use Rattle.polarised_formulas.specs.Formula.{Formula}
 use Rattle.polarised_formulas.proofs.ProblemReading.{problem-read_once, problem-refused_once, problem-not_both}
 use Rattle.fpc_base.specs.Reading.{ReadsAll, RefusesAll}
-use Rattle.explicit_kernel.specs.Judgment.{Judgment, accepted, rejected, refused, judgment}
+use Rattle.explicit_kernel.specs.Judgment.{Judgment, judgment}
 use Rattle.fpc_cli.specs.declared.answer.Answer.{Answer}
 use Rattle.fpc_cli.specs.declared.answer.Answer.TheVariants.{Accepted, Rejected, Refused, Usage, ReadFault, OutOfMemory}
 use Rattle.fpc_cli.specs.declared.answer.Role.TheVariants.{Problem, Definition, Certificate, Explicit, Atom, Native}
-use Rattle.fpc_cli.specs.Command.{Asked, verify, usage}
-use Rattle.fpc_cli.specs.Run.{MayHold, MayBeTooLarge, SpellsGoal, IsGood, IsProblemRefused, MissesOne, left_of, IsVerified, IsAccepted, IsRejected, IsRefused, IsCaused}
+use Rattle.fpc_cli.specs.Command.{verify, usage}
+use Rattle.fpc_cli.specs.Run.{MayHold, MayBeTooLarge, SpellsGoal, IsGood, first_place, IsNotBuilt, IsProblemRefused, left_of, IsVerified, IsAccepted, IsRejected, IsRefused, IsCaused}
 use Rattle.fpc_cli.specs.OneAnswer.{IsTold, IsFound, HasOneAnswer}
 
 -- what the law of numbers says of judgments
@@ -44,18 +46,42 @@ small-or-large untold x t h small large = t
 small-or-large missing x t h small large = h
 small-or-large (holds b) x t h small large = let e = ap length h in omega (arith, e, small, large)
 
+-- what is read of a file that is told is read of the bytes that it holds
+reads-same : (c : Content) (x y : List ℕ) (w : WrittenProblem) → IsTold c → MayHold c x → MayHold c y → ReadsAll IsProblem ProblemLimits [] (items_of x) w → ReadsAll IsProblem ProblemLimits [] (items_of y) w
+reads-same c x y w t h k reads = subst (λ bs. ReadsAll IsProblem ProblemLimits [] (items_of bs) w) (same-bytes c x y t h k) reads
+
 -- a problem that is read isn't refused
 good-or-refused : (c : Content) (names : List (List ℕ)) (goal : Formula) (r : Refusal) → IsTold c → SpellsGoal names c goal → IsProblemRefused c r → ⊥
 good-or-refused c names goal r t h (inl (e, large)) = small-or-large c h.bytes t h.held h.size large
-good-or-refused c names goal r t h (inr (bytes, (held, small, refuses))) =
-    problem-not_both (length bytes) (items_of bytes) h.read.written r (subst (λ bs. ReadsAll IsProblem ProblemLimits [] (items_of bs) h.read.written) (same-bytes c h.bytes bytes t h.held held) h.read.reads) refuses
+good-or-refused c names goal r t h (inr (inl (bytes, (held, small, refuses)))) =
+    problem-not_both (length bytes) (items_of bytes) h.read.written r (reads-same c h.bytes bytes h.read.written t h.held held h.read.reads) refuses
+good-or-refused c names goal r t h (inr (inr k)) =
+    let same : h.read.written ≡ k.written = problem-read_once (items_of k.bytes) h.read.written k.written (reads-same c h.bytes k.bytes h.read.written t h.held k.held h.read.reads) k.reads in
+    let never : Lkf ≡ Ljf = h.read.in_logic ∙ ap (λ (w : WrittenProblem). w.logic) same ∙ sym k.in_logic in
+    cc
+
+-- a problem of LJF isn't refused by the grammar
+whole-or-refused : (c : Content) (bytes : List ℕ) (r s : Refusal) → IsTold c → MayHold c bytes → RefusesAll IsProblem ProblemLimits (length bytes) [] (items_of bytes) r → IsNotBuilt c s → ⊥
+whole-or-refused c bytes r s t held refuses k =
+    problem-not_both (length bytes) (items_of bytes) k.written r (reads-same c k.bytes bytes k.written t k.held held k.reads) refuses
+
+-- the place of the first token is one
+not_built-once : (c : Content) (r s : Refusal) → IsTold c → IsNotBuilt c r → IsNotBuilt c s → r ≡ s
+not_built-once c r s t h k = h.told ∙ ap at_first (same-bytes c h.bytes k.bytes t h.held k.held) ∙ sym k.told where
+  at_first : List ℕ → Refusal
+  at_first bytes = record { code = NotBuilt; at = first_place (items_of bytes) }
 
 refused-once : (c : Content) (r s : Refusal) → IsTold c → IsProblemRefused c r → IsProblemRefused c s → r ≡ s
 refused-once c r s t (inl (e, large)) (inl (f, large')) = e ∙ sym f
-refused-once c r s t (inl (e, large)) (inr (bytes, (held, small, refuses))) = absurd (small-or-large c bytes t held small large)
-refused-once c r s t (inr (bytes, (held, small, refuses))) (inl (e, large)) = absurd (small-or-large c bytes t held small large)
-refused-once c r s t (inr (bytes, (held, small, refuses))) (inr (bytes', (held', small', refuses'))) =
+refused-once c r s t (inl (e, large)) (inr (inl (bytes, (held, small, refuses)))) = absurd (small-or-large c bytes t held small large)
+refused-once c r s t (inl (e, large)) (inr (inr k)) = absurd (small-or-large c k.bytes t k.held k.size large)
+refused-once c r s t (inr (inl (bytes, (held, small, refuses)))) (inl (e, large)) = absurd (small-or-large c bytes t held small large)
+refused-once c r s t (inr (inl (bytes, (held, small, refuses)))) (inr (inl (bytes', (held', small', refuses')))) =
     problem-refused_once (length bytes') (items_of bytes') r s (subst (λ bs. RefusesAll IsProblem ProblemLimits (length bs) [] (items_of bs) r) (same-bytes c bytes bytes' t held held') refuses) refuses'
+refused-once c r s t (inr (inl (bytes, (held, small, refuses)))) (inr (inr k)) = absurd (whole-or-refused c bytes r s t held refuses k)
+refused-once c r s t (inr (inr h)) (inl (e, large)) = absurd (small-or-large c h.bytes t h.held h.size large)
+refused-once c r s t (inr (inr h)) (inr (inl (bytes, (held, small, refuses)))) = absurd (whole-or-refused c bytes s r t held refuses h)
+refused-once c r s t (inr (inr h)) (inr (inr k)) = not_built-once c r s t h k
 
 -- a name token begins as a name
 begins-formed : (x : List ℕ) → HasForm Name x → begins_name x ≡ true

@@ -1,14 +1,14 @@
 -- Why the program answers as it does, and what it writes.
-use Rattle.std.specs.Prelude.{◌≡◌, ◌≢◌, ◌⊎◌, ℕ, ◌+◌, ◌<◌, ◌≤◌, List, [], ◌++◌, length, Option, Some, None, Result, Ok, Err}
-use Rattle.fpc_base.specs.Lexeme.{items_of}
-use Rattle.fpc_base.specs.Reading.{RefusesAll}
+use Rattle.std.specs.Prelude.{◌≡◌, ◌≢◌, ◌⊎◌, ℕ, ◌+◌, ◌<◌, ◌≤◌, List, [], ◌∷◌, ◌++◌, length, Option, Some, None, Result, Ok, Err}
+use Rattle.fpc_base.specs.Lexeme.{Item, says, items_of}
+use Rattle.fpc_base.specs.Reading.{ReadsAll, RefusesAll}
 use Rattle.fpc_base.specs.Outside.{Content, untold, missing, holds, Rose, Adds, AddsPrefix}
 use Rattle.fpc_base.specs.declared.refusal.Refusal.{Refusal}
-use Rattle.fpc_base.specs.declared.refusal.Code.TheVariants.{TooLarge}
+use Rattle.fpc_base.specs.declared.refusal.Code.TheVariants.{NotBuilt, TooLarge}
 use Rattle.fpc_terms.specs.Name.{Agrees, AreDifferent}
-use Rattle.polarised_formulas.specs.declared.logic.Logic.TheVariants.{Lkf}
+use Rattle.polarised_formulas.specs.declared.logic.Logic.TheVariants.{Lkf, Ljf}
 use Rattle.polarised_formulas.specs.Formula.{Formula, IsClosed, IsLkf}
-use Rattle.polarised_formulas.specs.Written.{IsProblem}
+use Rattle.polarised_formulas.specs.Written.{WrittenProblem, IsProblem}
 use Rattle.polarised_formulas.specs.Place.{ProblemLimits}
 use Rattle.polarised_formulas.specs.ReadProblem.{ProblemIsRead}
 use Rattle.lkf_rules.specs.Derivation.{IsDerivable}
@@ -95,11 +95,27 @@ abbrev pub HasJudgment : Asked → (List ℕ → Content) → Option (List ℕ) 
 HasJudgment (verify problem explicit) content left P = IsVerified (content problem) (content explicit) left P
 HasJudgment usage content left P = ⊥
 
--- why a problem's file is refused: for its size, or by the grammar at the first place where it is no problem's
+-- the place of the first token
+abbrev pub first_place : List Item → ℕ
+first_place (says c at ∷ items) = at
+first_place _ = 0
+
+-- the file's bytes are a problem of LJF, whose first token is told as not built
+pub record IsNotBuilt (content : Content) (refusal : Refusal) : Type 0 where
+  pub bytes : List ℕ
+  pub held : MayHold content bytes
+  pub size : length bytes ≤ 16777216
+  pub written : WrittenProblem
+  pub reads : ReadsAll IsProblem ProblemLimits [] (items_of bytes) written
+  pub in_logic : Ljf ≡ written.logic
+  pub told : refusal ≡ record { code = NotBuilt; at = first_place (items_of bytes) }
+
+-- why a problem's file is refused: for its size, by the grammar at the first place where it is no problem's, or since it is a problem of LJF
 abbrev pub IsProblemRefused : Content → Refusal → Type 0
 IsProblemRefused content refusal =
     ((refusal ≡ record { code = TooLarge; at = 16777216 }) × MayBeTooLarge content)
-    ⊎ ((bytes : List ℕ) × (MayHold content bytes × (length bytes ≤ 16777216) × RefusesAll IsProblem ProblemLimits (length bytes) [] (items_of bytes) refusal))
+    ⊎ (((bytes : List ℕ) × (MayHold content bytes × (length bytes ≤ 16777216) × RefusesAll IsProblem ProblemLimits (length bytes) [] (items_of bytes) refusal))
+    ⊎ IsNotBuilt content refusal)
 
 -- a refusal of a file: of a problem as its grammar tells it, of a certificate as it is judged
 abbrev pub IsRefusalOf : Role → Asked → (List ℕ → Content) → Option (List ℕ) → Refusal → Type 0

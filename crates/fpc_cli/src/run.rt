@@ -1,10 +1,11 @@
 //! All that the program does, over any files and any sink.
 ghost use Rattle.std.specs.Prelude.{◌≡◌, ◌≢◌, ◌≤◌, ◌<◌, ◌⊎◌, List, ℕ, OnOk, IfOk, IfErr};
+ghost use Rattle.fpc_base.specs.Lexeme.{items_of};
 ghost use Rattle.fpc_base.specs.Outside.{missing, IsAtStartOf};
 ghost use Rattle.polarised_formulas.specs.Formula.{IsClosed, IsLkf};
 ghost use Rattle.polarised_formulas.specs.declared.logic.Logic.TheVariants.{Lkf};
 ghost use Rattle.fpc_cli.specs.Command.{asked_by, verify as asked_to_verify};
-ghost use Rattle.fpc_cli.specs.Run.{HasFilesTo, SpellsGoal, IsCaused, IsAnswered, IsPut, IsAnswerOf};
+ghost use Rattle.fpc_cli.specs.Run.{HasFilesTo, SpellsGoal, first_place, IsCaused, IsAnswered, IsPut, IsAnswerOf};
 
 use crate::answer::{Answer, Role, WANT_OF_MEMORY, status, text_of};
 use crate::command::{Command, command_of};
@@ -14,8 +15,10 @@ use explicit_kernel::verify::{Verdict, VerifyRefusal, verify};
 use fpc_base::outside::{Failed, Files, Sink};
 use fpc_base::refusal::{Code, ParseRefusal, ReadRefusal, Refusal};
 use fpc_base::steps::Steps;
+use fpc_base::tokens::Tokens;
 use fpc_base::transfer::{put, read_all};
 use fpc_terms::names::Names;
+use polarised_formulas::logic::Logic;
 use polarised_formulas::problem::{Problem, read_problem};
 use std::alloc::Global;
 use std::marker::Brand;
@@ -23,6 +26,30 @@ use std::sync::ledger::{Blank, Ledger};
 
 /// The most bytes of a source file.
 const SOURCE_LIMIT: usize = 16_777_216;
+
+/// The place of the first token.
+fn first_place(bytes: &[u8]) -> usize
+    ensures { result ≡ first_place (items_of bytes.now) }
+{
+    let mut tokens = Tokens::new(bytes);
+    match tokens.next() {
+        Ok(Some(token)) => token.at,
+        _ => 0,
+    }
+}
+
+/// The refusal of a problem of LJF.
+fn not_built(bytes: &[u8]) -> Answer
+    ensures { result ≡ Answer.Refused Role.Problem (record { code = Code.NotBuilt; at = first_place (items_of bytes.now) }) }
+{
+    Answer::Refused {
+        role: Role::Problem,
+        refusal: Refusal {
+            code: Code::NotBuilt,
+            at: first_place(bytes),
+        },
+    }
+}
 
 /// Opens and reads the problem's file.
 fn problem_in<F: Files>(
@@ -61,7 +88,11 @@ fn problem_in<F: Files>(
     match read_problem(alloc, names, bytes.as_slice()) {
         Ok(problem) => {
             names.distinct();
-            Ok(problem)
+            let logic = problem.logic;
+            match logic {
+                Logic::Lkf => Ok(problem),
+                Logic::Ljf => Err(not_built(bytes.as_slice())),
+            }
         }
         Err(ParseRefusal::Refused(refusal)) => Err(Answer::Refused {
             role: Role::Problem,

@@ -22,11 +22,10 @@ use Rattle.polarised_formulas.proofs.Sound.{live-run}
 use Rattle.polarised_formulas.proofs.Complete.{joiner_of-joiner_sign, joiner-behind, run-ends}
 use Rattle.polarised_formulas.proofs.FormulaLaws.{whole-live}
 use Rattle.polarised_formulas.proofs.ProblemLaws.{formula-append, step-dot, start-word, reading-step}
-use Rattle.polarised_formulas.specs.RoundTrip.{IsBuilt}
 use Rattle.polarised_formulas.specs.Spoken.{Says}
 use Rattle.polarised_formulas.proofs.Small.{written_depth, words_count, IsSmall, AreSmall, HasSmall}
 use Rattle.polarised_formulas.proofs.Fits.{Fits, less-than}
-use Rattle.polarised_formulas.proofs.Takes.{TakesAll, IsBuilt-taken, Taken-read}
+use Rattle.polarised_formulas.proofs.Takes.{TakesAll, Taken-read}
 
 module _ (logic : Logic) (parameters : List (List ℕ)) (positive : Bool) (x : List ℕ) (p : Place) where
   abbrev FitsIn : term.TermState → List Lexeme → Type 0
@@ -206,7 +205,6 @@ pub record IsRead (items : List Item) (w : WrittenProblem) : Type 0 where
   pub tokens : List Lexeme
   pub said : Says tokens items
   pub is_problem : IsProblem tokens w
-  pub is_built : IsBuilt w.logic
   pub deep : written_depth w.formula ≤ 10000
   pub small : HasSmall w.formula
 
@@ -219,7 +217,6 @@ IsRead-read items w h =
       tokens = t.tokens;
       said = t.said;
       is_problem = t.is_whole;
-      is_built = IsBuilt-taken w.logic takes.0;
       deep = let d = in_limits.deep in omega (arith, d);
       small = in_limits.small;
     }

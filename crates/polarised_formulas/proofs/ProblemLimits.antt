@@ -1,7 +1,7 @@
 -- A token of a problem is refused or taken as the machine says.
-use Rattle.std.proofs.Common.{◌≡◌, ◌↔◌, ◌⊎◌, inl, inr, ℕ, List, [], ◌∷◌, ◌++◌, refl, ap, sym, subst, ◌∙◌, Option, Some, None, Result, Ok, Err}
+use Rattle.std.proofs.Common.{◌≡◌, ◌↔◌, ℕ, List, [], ◌∷◌, ◌++◌, refl, ap, sym, subst, ◌∙◌, Option, Some, None, Result, Ok, Err}
 use Rattle.fpc_base.specs.declared.refusal.Code.{Code}
-use Rattle.fpc_base.specs.declared.refusal.Code.TheVariants.{NotBuilt, Unexpected}
+use Rattle.fpc_base.specs.declared.refusal.Code.TheVariants.{Unexpected}
 use Rattle.fpc_base.specs.declared.tokens.lexeme.Sign.TheVariants as sign
 use Rattle.fpc_base.specs.Lexeme.{Lexeme, a_name, a_sign}
 use Rattle.fpc_base.specs.Reading.{IsTaken, IsRefused}
@@ -9,13 +9,13 @@ use Rattle.fpc_base.specs.Reading as read
 use Rattle.polarised_formulas.specs.declared.logic.Logic.{Logic}
 use Rattle.polarised_formulas.specs.declared.logic.Logic.TheVariants.{Lkf, Ljf}
 use Rattle.polarised_formulas.specs.Written.{WrittenFormula, IsProblem, logic_word}
-use Rattle.polarised_formulas.specs.Place.{FormulaLimits, too_deep, many_arguments, ProblemLimits, not_built, in_formula}
+use Rattle.polarised_formulas.specs.Place.{FormulaLimits, too_deep, many_arguments, ProblemLimits, in_formula}
 use Rattle.polarised_formulas.specs.Machine.{FormulaState, wants, stuck, step, whole_of, limited, ProblemState, reading, lost, logic_of, begun_in, dotted, read_on, begun_within, dotted_within, read_within, problem_step, limited_problem}
 use Rattle.polarised_formulas.proofs.States.{IsLive}
 use Rattle.polarised_formulas.proofs.ReadingLaws.{taken-refused, refused-once}
 use Rattle.polarised_formulas.proofs.FormulaLaws.{state_behind, state_behind-step, step-begins, begins-step, leads_to-state, leads_into-state}
 use Rattle.polarised_formulas.proofs.Limits.{IsJudged, limited-judged, limits-once}
-use Rattle.polarised_formulas.proofs.ProblemLaws.{step-dot, logic_of-word, read_on-live, IsLiveProblem, problem_behind, Stands, at_start, within_formula, at_end, nowhere, stands, problem-once, step-begins_problem, begins-step_problem}
+use Rattle.polarised_formulas.proofs.ProblemLaws.{step-dot, read_on-live, IsLiveProblem, problem_behind, Stands, at_start, within_formula, at_end, nowhere, stands, problem-once, step-begins_problem, begins-step_problem}
 
 -- the limits of a formula behind the word of its logic
 record OfFormula (before : List Lexeme) (c : Lexeme) (code : Code) : Type 0 where
@@ -24,15 +24,8 @@ record OfFormula (before : List Lexeme) (c : Lexeme) (code : Code) : Type 0 wher
   tokens : before ≡ logic_word logic ∷ cs
   limit : FormulaLimits logic [] cs c code
 
--- the word of LJF
-record OfWord (before : List Lexeme) (c : Lexeme) (code : Code) : Type 0 where
-  first : before ≡ []
-  word : c ≡ logic_word Ljf
-  told : code ≡ NotBuilt
-
-limits-are : (before : List Lexeme) (c : Lexeme) (code : Code) → ProblemLimits before c code → OfWord before c code ⊎ OfFormula before c code
-limits-are _ _ _ not_built = inl (record { first = refl; word = refl; told = refl })
-limits-are _ _ _ (in_formula {logic = logic} {before = before} l) = inr (record { logic = logic; cs = before; tokens = refl; limit = l })
+limits-are : (before : List Lexeme) (c : Lexeme) (code : Code) → ProblemLimits before c code → OfFormula before c code
+limits-are _ _ _ (in_formula {logic = logic} {before = before} l) = record { logic = logic; cs = before; tokens = refl; limit = l }
 
 -- the logic of the first word
 abbrev first_logic : List Lexeme → Option Logic
@@ -49,14 +42,12 @@ word-once k l cs ds e = let h : Some k ≡ Some l = sym (first_logic-word k cs) 
 -- the limits of a problem behind the word of its logic are those of its formula
 within-limits : (logic : Logic) (cs before : List Lexeme) (c : Lexeme) (code : Code) → before ≡ logic_word logic ∷ cs → ProblemLimits before c code
     → FormulaLimits logic [] cs c code
-within-limits logic cs before c code e l = from (limits-are before c code l) where
-  from : OfWord before c code ⊎ OfFormula before c code → FormulaLimits logic [] cs c code
-  from (inl w) = let f : before ≡ [] = w.first in cc
-  from (inr f) =
-      let g : logic_word f.logic ∷ f.cs ≡ logic_word logic ∷ cs = sym f.tokens ∙ e in
-      let l : f.logic ≡ logic = word-once f.logic logic f.cs cs g in
-      let d : f.cs ≡ cs = cc in
-      subst (λ k. FormulaLimits k [] cs c code) l (subst (λ ds. FormulaLimits f.logic [] ds c code) d f.limit)
+within-limits logic cs before c code e l =
+    let f : OfFormula before c code = limits-are before c code l in
+    let g : logic_word f.logic ∷ f.cs ≡ logic_word logic ∷ cs = sym f.tokens ∙ e in
+    let same : f.logic ≡ logic = word-once f.logic logic f.cs cs g in
+    let d : f.cs ≡ cs = cc in
+    subst (λ k. FormulaLimits k [] cs c code) same (subst (λ ds. FormulaLimits f.logic [] ds c code) d f.limit)
 
 limits-within : (logic : Logic) (cs before : List Lexeme) (c : Lexeme) (code : Code) → before ≡ logic_word logic ∷ cs → FormulaLimits logic [] cs c code
     → ProblemLimits before c code
@@ -89,16 +80,12 @@ stuck-is _ n = absurd (n tt)
 
 judged-start : (before : List Lexeme) (x : List ℕ) (o : Option Logic) → before ≡ [] → logic_of x ≡ o
     → problem_step (problem_behind before) (a_name x) ≡ begun_in o → IsProblemJudged before (a_name x) (begun_in o) (begun_within o)
-judged-start before x (Some Lkf) e o s = (
+judged-start before x (Some logic) e o s = (
   record { begins = step-begins_problem before (a_name x) (rw s tt); free = λ code l. no-limit (limits-are before (a_name x) code l) },
   refl,
 ) where
-  no-limit : {code : Code} → OfWord before (a_name x) code ⊎ OfFormula before (a_name x) code → ⊥
-  no-limit (inl w) = let f : Lkf ≡ Ljf = word-once Lkf Ljf [] [] (ap (λ c. c ∷ []) (sym (logic_of-word x Lkf o) ∙ w.word)) in cc
-  no-limit (inr f) = let g : [] ≡ logic_word f.logic ∷ f.cs = sym e ∙ f.tokens in cc
-judged-start before x (Some Ljf) e o s =
-    read.IsRefused.limited (step-begins_problem before (a_name x) (rw s tt))
-    (subst (λ b. ProblemLimits b (a_name x) NotBuilt) (sym e) (subst (λ c. ProblemLimits [] c NotBuilt) (sym (logic_of-word x Ljf o)) not_built))
+  no-limit : {code : Code} → OfFormula before (a_name x) code → ⊥
+  no-limit f = let g : [] ≡ logic_word f.logic ∷ f.cs = sym e ∙ f.tokens in cc
 judged-start before x None e o s = no-problem before (a_name x) s
 
 judged-dot : (before : List Lexeme) (logic : Logic) (cs : List Lexeme) (o : Option WrittenFormula) → before ≡ logic_word logic ∷ cs
@@ -159,13 +146,8 @@ limited_problem-judged before c = judged-stands before c (problem_behind before)
 
 -- one limit forbids a token
 pub problem_limits-once : (before : List Lexeme) (c : Lexeme) (a b : Code) → ProblemLimits before c a → ProblemLimits before c b → a ≡ b
-problem_limits-once before c a b l m = both (limits-are before c a l) where
-  both : OfWord before c a ⊎ OfFormula before c a → a ≡ b
-  both (inl w) = of_word (limits-are before c b m) where
-    of_word : OfWord before c b ⊎ OfFormula before c b → a ≡ b
-    of_word (inl v) = w.told ∙ sym v.told
-    of_word (inr f) = let g : [] ≡ logic_word f.logic ∷ f.cs = sym w.first ∙ f.tokens in cc
-  both (inr f) = limits-once f.logic [] f.cs c a b f.limit (within-limits f.logic f.cs before c b f.tokens m)
+problem_limits-once before c a b l m =
+    let f : OfFormula before c a = limits-are before c a l in limits-once f.logic [] f.cs c a b f.limit (within-limits f.logic f.cs before c b f.tokens m)
 
 answer-refused : (before : List Lexeme) (c : Lexeme) (t : ProblemState) (r : Result ProblemState Code) (code : Code) → IsProblemJudged before c t r
     → IsRefused IsProblem ProblemLimits before c code → r ≡ Err code

@@ -6,7 +6,7 @@ use Rattle.fpc_base.specs.Lexeme.{Lexeme, a_sign, Item, says}
 use Rattle.fpc_base.specs.Reading.{ReadsAll}
 use Rattle.fpc_base.specs.Reading as reading
 use Rattle.polarised_formulas.specs.declared.logic.Logic.{Logic}
-use Rattle.polarised_formulas.specs.declared.logic.Logic.TheVariants.{Lkf}
+use Rattle.polarised_formulas.specs.declared.logic.Logic.TheVariants.{Lkf, Ljf}
 use Rattle.polarised_formulas.specs.Written.{WrittenFormula, formula_tokens, WrittenProblem, IsProblem, logic_word, IsBound, IsWrittenIn}
 use Rattle.polarised_formulas.specs.Place.{whole, ProblemLimits}
 use Rattle.polarised_formulas.specs.Machine.{FormulaState, wants, stuck, step, run, whole_of, is_deep, is_full, within, limited, ProblemState, start, reading as reading_of, problem_of, problem_step, problem_run, limited_problem, read_within, dotted, dotted_within}
@@ -14,10 +14,9 @@ use Rattle.polarised_formulas.proofs.States.{IsLive}
 use Rattle.polarised_formulas.proofs.Sound.{live-run}
 use Rattle.polarised_formulas.proofs.Complete.{run-ends}
 use Rattle.polarised_formulas.proofs.FormulaLaws.{whole-live}
-use Rattle.polarised_formulas.proofs.ProblemLaws.{formula-append, step-dot, start-word, reading-step, problem_behind, problem_behind-step, problem-finished, step-begins_problem}
+use Rattle.polarised_formulas.proofs.ProblemLaws.{formula-append, step-dot, start-word, reading-step, problem_behind, problem_behind-step, problem-finished}
 use Rattle.polarised_formulas.proofs.ProblemLimits.{problem_taken-told}
 use Rattle.polarised_formulas.proofs.ProblemReading.{IsAt, IsAt-start, IsAt-taken, IsAt-done}
-use Rattle.polarised_formulas.specs.RoundTrip.{IsBuilt}
 use Rattle.polarised_formulas.specs.Spoken.{Says}
 use Rattle.polarised_formulas.proofs.Small.{written_depth, HasSmall}
 use Rattle.polarised_formulas.proofs.Fits.{Fits, fits-formula}
@@ -27,20 +26,10 @@ abbrev pub TakesAll : ProblemState → List Lexeme → Type 0
 TakesAll s [] = Unit {0}
 TakesAll s (c ∷ cs) = (limited_problem s c ≡ Ok (problem_step s c)) × TakesAll (problem_step s c) cs
 
--- the word of a logic is taken exactly where no limit forbids it
-abbrev pub TakesWord : Logic → Type 0
-TakesWord logic = limited_problem start (logic_word logic) ≡ Ok (problem_step start (logic_word logic))
-
-pub IsBuilt-taken : (logic : Logic) → TakesWord logic → IsBuilt logic
-IsBuilt-taken logic e = ((problem_taken-told [] (logic_word logic) (problem_step start (logic_word logic))).0 e).0.free
-
-pub taken-IsBuilt : (logic : Logic) → IsBuilt logic → TakesWord logic
-taken-IsBuilt logic free =
-    (problem_taken-told [] (logic_word logic) (problem_step start (logic_word logic))).1
-    (record { begins = step-begins_problem [] (logic_word logic) (rw (start-word logic) tt); free = free }, refl)
-
-pub IsBuilt-Lkf : IsBuilt Lkf
-IsBuilt-Lkf = IsBuilt-taken Lkf refl
+-- the word of a logic is taken
+takes-word : (logic : Logic) → limited_problem start (logic_word logic) ≡ Ok (problem_step start (logic_word logic))
+takes-word Lkf = refl
+takes-word Ljf = refl
 
 at-taken : (items : List Item) (cs : List Lexeme) (rest : List Item) (s : ProblemState) → IsAt 0 items rest s → Says cs rest → TakesAll s cs
     → IsAt 0 items [] (problem_run s cs)
@@ -113,20 +102,20 @@ module _ (logic : Logic) where
       subst F (sym next) (takes-one s c h.0 h.1 live, takes-tokens cs (step logic [] s c) w h.2 e)
 
   -- the tokens of a problem within the limits
-  pub takes-problem : (w : WrittenFormula) → IsBuilt logic → IsBound [] [] w → IsWrittenIn logic w → written_depth w ≤ 10000 → HasSmall w
+  pub takes-problem : (w : WrittenFormula) → IsBound [] [] w → IsWrittenIn logic w → written_depth w ≤ 10000 → HasSmall w
       → TakesAll start (logic_word logic ∷ formula_tokens logic w (a_sign sign.Dot ∷ []))
-  takes-problem w built known l le small =
+  takes-problem w known l le small =
       let fits : Fits logic [] (wants whole) (formula_tokens logic w (a_sign sign.Dot ∷ [])) =
       fits-formula logic [] w whole (a_sign sign.Dot ∷ []) known l tt (omega (arith, le)) small (refl, refl, tt) in
       let append : formula_tokens logic w (a_sign sign.Dot ∷ []) ≡ formula_tokens logic w [] ++ a_sign sign.Dot ∷ [] =
       formula-append logic w [] (a_sign sign.Dot ∷ []) in
       let taken : TakesAll (reading_of logic (wants whole)) (formula_tokens logic w [] ++ a_sign sign.Dot ∷ []) =
       takes-tokens (formula_tokens logic w []) (wants whole) w (subst (Fits logic [] (wants whole)) append fits) (run-ends logic [] w whole known l) in
-      (taken-IsBuilt logic built, subst (λ s. TakesAll s (formula_tokens logic w (a_sign sign.Dot ∷ []))) (sym (start-word logic)) (subst (TakesAll (reading_of logic (wants whole))) (sym append) taken))
+      (takes-word logic, subst (λ s. TakesAll s (formula_tokens logic w (a_sign sign.Dot ∷ []))) (sym (start-word logic)) (subst (TakesAll (reading_of logic (wants whole))) (sym append) taken))
 
-  pub ReadsAll-written : (w : WrittenFormula) (items : List Item) → IsBuilt logic → IsBound [] [] w → IsWrittenIn logic w → written_depth w ≤ 10000 → HasSmall w
+  pub ReadsAll-written : (w : WrittenFormula) (items : List Item) → IsBound [] [] w → IsWrittenIn logic w → written_depth w ≤ 10000 → HasSmall w
       → Says (logic_word logic ∷ formula_tokens logic w (a_sign sign.Dot ∷ [])) items
       → ReadsAll IsProblem ProblemLimits [] items (record { logic = logic; formula = w })
-  ReadsAll-written w items built known l le small said =
+  ReadsAll-written w items known l le small said =
       ReadsAll-taken items (logic_word logic ∷ formula_tokens logic w (a_sign sign.Dot ∷ [])) (record { logic = logic; formula = w })
-      (record { spelled = refl; is_bound = known; in_logic = l }) said (takes-problem w built known l le small)
+      (record { spelled = refl; is_bound = known; in_logic = l }) said (takes-problem w known l le small)

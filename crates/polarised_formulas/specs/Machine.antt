@@ -2,7 +2,7 @@
 use Rattle.std.specs.Prelude.{ℕ, Bool, true, false, if◌then◌else◌, List, [], ◌∷◌, Option, Some, None, is_some, Result, Ok, Err, nat_eq, codes}
 use Rattle.std.specs.Str.{bytes_eq}
 use Rattle.fpc_base.specs.declared.refusal.Code.{Code}
-use Rattle.fpc_base.specs.declared.refusal.Code.TheVariants.{NotBuilt, Unexpected, TooDeep, ManyArguments}
+use Rattle.fpc_base.specs.declared.refusal.Code.TheVariants.{Unexpected, TooDeep, ManyArguments}
 use Rattle.fpc_base.specs.declared.tokens.lexeme.Sign.{Sign}
 use Rattle.fpc_base.specs.declared.tokens.lexeme.Sign.TheVariants as sign
 use Rattle.fpc_base.specs.Lexeme.{Lexeme, a_name, a_variable, a_sign}
@@ -176,8 +176,7 @@ problem_of _ = None
 
 -- the word of the logic, within the limits
 abbrev pub begun_within : Option Logic → Result ProblemState Code
-begun_within (Some Lkf) = Ok (reading Lkf (wants whole))
-begun_within (Some Ljf) = Err NotBuilt
+begun_within (Some logic) = Ok (reading logic (wants whole))
 begun_within None = Err Unexpected
 
 -- behind the dot, or Unexpected where the formula isn't whole

@@ -1,12 +1,11 @@
 -- The way into a formula: what stands before a part that is still to come; and what the limits forbid.
 use Rattle.std.specs.Prelude.{◌≡◌, ℕ, suc, Bool, List, [], ◌∷◌, ◌++◌, length}
 use Rattle.fpc_base.specs.declared.refusal.Code.{Code}
-use Rattle.fpc_base.specs.declared.refusal.Code.TheVariants.{NotBuilt, TooDeep, ManyArguments}
+use Rattle.fpc_base.specs.declared.refusal.Code.TheVariants.{TooDeep, ManyArguments}
 use Rattle.fpc_base.specs.declared.tokens.lexeme.Sign.TheVariants as sign
 use Rattle.fpc_base.specs.Lexeme.{Lexeme, a_name, a_variable, a_sign}
 use Rattle.fpc_terms.specs.Spot.{Spot, alone, in_arguments, in_term, tokens_to, done_at, IsSpotKnown}
 use Rattle.polarised_formulas.specs.declared.logic.Logic.{Logic}
-use Rattle.polarised_formulas.specs.declared.logic.Logic.TheVariants.{Ljf}
 use Rattle.polarised_formulas.specs.declared.connective.Joiner.{Joiner}
 use Rattle.polarised_formulas.specs.declared.connective.Binder.{Binder}
 use Rattle.polarised_formulas.specs.Written.{WrittenFormula, formula_tokens, mark_tokens, joiner_sign, binder_sign, logic_word, IsWrittenIn, IsJoinerOf, IsBound, is_known}
@@ -86,8 +85,7 @@ pub data FormulaLimits (logic : Logic) (parameters : List (List ℕ)) (before : 
   too_deep : LeadsTo logic parameters 10001 before → FormulaLimits logic parameters before c TooDeep
   many_arguments : (LeadsTo logic parameters 10001 before → ⊥) → LeadsInto logic parameters 255 (before ++ c ∷ []) → FormulaLimits logic parameters before c ManyArguments
 
--- What forbids a token of a problem behind others: the word `ljf` for now, and the limits of its formula.
+-- What forbids a token of a problem behind others: the limits of its formula.
 pub data ProblemLimits : (before : List Lexeme) → Lexeme → Code → Type 0 where
-  not_built : ProblemLimits [] (logic_word Ljf) NotBuilt
   in_formula : {logic : Logic} {before : List Lexeme} {c : Lexeme} {code : Code}
       → FormulaLimits logic [] before c code → ProblemLimits (logic_word logic ∷ before) c code

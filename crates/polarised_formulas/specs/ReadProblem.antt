@@ -1,5 +1,5 @@
 -- What is read of a problem, and how it is refused.
-use Rattle.std.specs.Prelude.{◌≡◌, ◌⊎◌, ℕ, Bool, true, false, List, [], Option, Some, None, Result, Ok, Err}
+use Rattle.std.specs.Prelude.{◌≡◌, ℕ, Bool, true, false, List, [], Some, None, Result, Ok, Err}
 use Rattle.fpc_base.specs.declared.refusal.Code.{Code}
 use Rattle.fpc_base.specs.declared.refusal.Code.TheVariants.{TooLarge, Unexpected}
 use Rattle.fpc_base.specs.declared.refusal.ParseRefusal.{ParseRefusal}
@@ -15,7 +15,7 @@ use Rattle.polarised_formulas.specs.declared.logic.Logic.TheVariants.{Lkf}
 use Rattle.polarised_formulas.specs.declared.problem.Phase.TheVariants as phase
 use Rattle.polarised_formulas.specs.declared.problem.ProblemReader.{ProblemReader}
 use Rattle.polarised_formulas.specs.Formula.{Formula}
-use Rattle.polarised_formulas.specs.Written.{WrittenFormula, WrittenProblem, IsProblem, formula_meant}
+use Rattle.polarised_formulas.specs.Written.{WrittenProblem, IsProblem, formula_meant}
 use Rattle.polarised_formulas.specs.Place.{whole, ProblemLimits}
 use Rattle.polarised_formulas.specs.Machine.{FormulaState, wants, whole_of, ProblemState, start, reading, finished, lost, problem_of}
 use Rattle.polarised_formulas.specs.ReadFormula.{HoldsFor}
@@ -39,9 +39,8 @@ IsProblemRefusal items n parse.OutOfMemory = Unit {0}
 -- the reader holds the state, for all numberings that agree with the table
 abbrev pub HoldsProblem : List (List ℕ) → ProblemState → ProblemReader → Type 0
 HoldsProblem names start r = (r.phase ≡ phase.Start) × HoldsFor names Lkf [] (wants whole) r.formula
-HoldsProblem names (reading logic s) r = (logic ≡ Lkf) × (r.phase ≡ phase.Reading) × HoldsFor names Lkf [] s r.formula
-HoldsProblem names (finished logic w) r =
-    (logic ≡ Lkf) × (r.phase ≡ phase.Finished) × ((s : FormulaState) × ((whole_of s ≡ Some w) × HoldsFor names Lkf [] s r.formula))
+HoldsProblem names (reading logic s) r = (r.phase ≡ phase.Reading logic) × HoldsFor names logic [] s r.formula
+HoldsProblem names (finished logic w) r = (r.phase ≡ phase.Finished logic) × ((s : FormulaState) × ((whole_of s ≡ Some w) × HoldsFor names logic [] s r.formula))
 HoldsProblem names lost r = ⊥
 
 -- a token was taken or refused as the machine does, or memory ran out
@@ -55,11 +54,11 @@ abbrev pub is_dot : Lexeme → Bool
 is_dot (a_sign sign.Dot) = true
 is_dot _ = false
 
--- the goal of the problem that the state is
-pub record GoalOf (names : List (List ℕ)) (s : ProblemState) (goal : Formula) : Type 0 where
+-- the logic and the goal of the problem that the state is
+pub record GoalOf (names : List (List ℕ)) (s : ProblemState) (logic : Logic) (goal : Formula) : Type 0 where
   pub written : WrittenProblem
   pub whole_problem : problem_of s ≡ Some written
-  pub in_logic : written.logic ≡ Lkf
+  pub in_logic : logic ≡ written.logic
   pub meant : (number : List ℕ → ℕ) → Agrees number names → goal ≡ formula_meant number [] [] written.formula
 
 -- refused at the end, since the state is no whole problem; or memory ran out

@@ -1,12 +1,10 @@
 -- A problem that is printed is read back.
 use Rattle.std.specs.Prelude.{◌≡◌, ℕ, ◌≤◌, ◌^◌, List, [], ◌∷◌}
-use Rattle.fpc_base.specs.declared.refusal.Code.{Code}
 use Rattle.fpc_base.specs.declared.tokens.lexeme.Sign.TheVariants as sign
 use Rattle.fpc_base.specs.Lexeme.{a_sign, Item, items_of}
 use Rattle.fpc_base.specs.Reading.{ReadsAll}
 use Rattle.fpc_terms.specs.Name.{Agrees, HasName}
 use Rattle.polarised_formulas.specs.declared.logic.Logic.{Logic}
-use Rattle.polarised_formulas.specs.declared.logic.Logic.TheVariants.{Lkf}
 use Rattle.polarised_formulas.specs.Formula.{Formula, IsClosed, IsOfLogic}
 use Rattle.polarised_formulas.specs.Text.{problem_text}
 use Rattle.polarised_formulas.specs.Written.{WrittenFormula, formula_tokens, formula_meant, logic_word, IsProblem}
@@ -24,10 +22,6 @@ pub record IsPrintable (names : List (List ℕ)) (logic : Logic) (f : Formula) :
   pub deep : depth_of f ≤ 10000
   pub few : HasFewArguments f
 
--- no limit forbids the word of the logic
-abbrev pub IsBuilt : Logic → Type 0
-IsBuilt logic = (code : Code) → ProblemLimits [] (logic_word logic) code → ⊥
-
 -- the items are read as a problem of the logic; its names are in the table, and with their numbers it means the formula
 pub record ReadsAs (names : List (List ℕ)) (number : List ℕ → ℕ) (items : List Item) (logic : Logic) (f : Formula) : Type 0 where
   pub written : WrittenFormula
@@ -40,15 +34,15 @@ abbrev pub TextIsScanned : Type 0
 TextIsScanned = (names : List (List ℕ)) (logic : Logic) (f : Formula) → depth_of f ≤ 2 ^ 64 → IsClosed f → HasNames names f
     → Says (logic_word logic ∷ formula_tokens logic (written_of names 0 f) (a_sign sign.Dot ∷ [])) (items_of (problem_text names logic f))
 
--- the text of a problem of LKF within the limits is read as the formula
+-- the text of a problem within the limits is read as the formula
 abbrev pub TextIsRead : Type 0
-TextIsRead = (names : List (List ℕ)) (number : List ℕ → ℕ) (f : Formula) → Agrees number names → IsPrintable names Lkf f
-    → ReadsAs names number (items_of (problem_text names Lkf f)) Lkf f
+TextIsRead = (names : List (List ℕ)) (number : List ℕ → ℕ) (logic : Logic) (f : Formula) → Agrees number names → IsPrintable names logic f
+    → ReadsAs names number (items_of (problem_text names logic f)) logic f
 
 -- what was read is a problem within the limits
 abbrev pub ReadIsPrintable : Type 0
 ReadIsPrintable = (names : List (List ℕ)) (number : List ℕ → ℕ) (bytes : List ℕ) (logic : Logic) (f : Formula) → Agrees number names
-    → ReadsAs names number (items_of bytes) logic f → IsPrintable names logic f × IsBuilt logic
+    → ReadsAs names number (items_of bytes) logic f → IsPrintable names logic f
 
 -- the text of what was read is read as the same formula
 abbrev pub ReadIsReadBack : Type 0

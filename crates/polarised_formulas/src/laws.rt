@@ -9,8 +9,8 @@ pub fn one_answer()
     ensures both { IsNotBoth }
 {}
 
-/// The printed form of a problem says the tokens of its formula. A problem of LKF within the limits is read from it, and what was read
-/// is such a problem, so it is read back from its printed form.
+/// The printed form of a problem says the tokens of its formula. A problem within the limits is read from it, and what was read is such
+/// a problem, so it is read back from its printed form.
 pub fn problems_are_read_back()
     ensures scanned { TextIsScanned }
     ensures printed { TextIsRead }

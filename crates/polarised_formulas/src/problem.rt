@@ -4,7 +4,7 @@ ghost use Rattle.fpc_base.specs.Lexeme.{lexeme_as, items_of, a_sign};
 ghost use Rattle.fpc_base.specs.declared.tokens.lexeme.Sign.TheVariants.{Dot};
 ghost use Rattle.fpc_terms.specs.Name.{Grows};
 ghost use Rattle.fpc_terms.specs.Holding.{IsNamed};
-ghost use Rattle.polarised_formulas.specs.Formula.{IsClosed, IsLkf};
+ghost use Rattle.polarised_formulas.specs.Formula.{IsClosed, IsLkf, IsOfLogic};
 ghost use Rattle.polarised_formulas.specs.declared.logic.Logic.TheVariants.{Lkf};
 ghost use Rattle.polarised_formulas.specs.Machine.{ProblemState, start, limited_problem, logic_of};
 ghost use Rattle.polarised_formulas.specs.Printing.{AllNamesBelow};
@@ -34,12 +34,12 @@ pub struct Problem {
     pub goal: Formula,
 }
 
-/// Reads a problem: `lkf F.`. Names get their numbers in the table. A problem of LJF is refused as not built, so far.
+/// Reads a problem: `lkf F.` or `ljf F.`. Names get their numbers in the table.
 /// Memory is linear in the number of bytes, and so is the time, but for the look-ups of names and of variables.
 pub fn read_problem(alloc: Global, names: &mut Names, bytes: &[u8]) -> Result<Problem, ParseRefusal>
-    ensures logic { IfOk result (λ p. p.logic ≡ Lkf) }
     ensures closed { IfOk result (λ p. IsClosed p.goal) }
-    ensures lkf { IfOk result (λ p. IsLkf p.goal) }
+    ensures of_logic { IfOk result (λ p. IsOfLogic p.logic p.goal) }
+    ensures lkf { IfOk result (λ p. p.logic ≡ Lkf → IsLkf p.goal) }
     ensures read { IfOk result (λ p. ProblemIsRead (items_of bytes.now) names.new p.logic p.goal) }
     ensures named { IfOk result (λ p. AllNamesBelow (length names.new) p.goal) }
     ensures large { 16777216 < length bytes.now → IsTooLarge result }
@@ -52,21 +52,18 @@ pub fn read_problem(alloc: Global, names: &mut Names, bytes: &[u8]) -> Result<Pr
             at: MOST_BYTES,
         }));
     }
-    match read_goal(alloc, names, bytes) {
-        Ok(goal) => {
+    match read_tokens(alloc, names, bytes) {
+        Ok(problem) => {
             names.distinct();
-            Ok(Problem {
-                logic: Logic::Lkf,
-                goal,
-            })
+            Ok(problem)
         }
         Err(error) => Err(error),
     }
 }
 
-/// Reads the goal of a problem of LKF.
-fn read_goal(alloc: Global, names: &mut Names, bytes: &[u8]) -> Result<Formula, ParseRefusal>
-    ensures ok { IfOk result (ProblemIsRead (items_of bytes.now) names.new Lkf) }
+/// Reads a problem, whatever its size.
+fn read_tokens(alloc: Global, names: &mut Names, bytes: &[u8]) -> Result<Problem, ParseRefusal>
+    ensures ok { IfOk result (λ p. ProblemIsRead (items_of bytes.now) names.new p.logic p.goal) }
     ensures err { IfErr result (IsProblemRefusal (items_of bytes.now) (length bytes.now)) }
     ensures names { Grows names.old names.new }
 {
@@ -93,13 +90,13 @@ fn read_goal(alloc: Global, names: &mut Names, bytes: &[u8]) -> Result<Formula, 
 pub enum Phase {
     /// The word of the logic.
     Start,
-    /// The formula, or the dot behind it.
-    Reading,
+    /// The formula of a logic, or the dot behind it.
+    Reading(Logic),
     /// Nothing.
-    Finished,
+    Finished(Logic),
 }
 
-/// A problem of LKF that is being read, token by token.
+/// A problem that is being read, token by token.
 #[derive(Drop)]
 pub struct ProblemReader<'a> {
     phase: Phase,
@@ -133,6 +130,7 @@ impl<'a> ProblemReader<'a> {
     {
         ProblemReader {
             phase: Phase::Start,
+            // The word of the logic tells which it is.
             formula: FormulaReader::new(alloc, Logic::Lkf),
         }
     }
@@ -152,13 +150,13 @@ impl<'a> ProblemReader<'a> {
         let phase = self.phase;
         match phase {
             Phase::Start => self.take_logic(lexeme),
-            Phase::Reading => {
+            Phase::Reading(logic) => {
                 if is_dot(lexeme) {
-                    return self.take_dot(names);
+                    return self.take_dot(names, logic);
                 }
                 take_token(&mut self.formula, names, none, lexeme)
             }
-            Phase::Finished => Err(TokenRefusal::Refused(Code::Unexpected)),
+            Phase::Finished(_) => Err(TokenRefusal::Refused(Code::Unexpected)),
         }
     }
 
@@ -168,11 +166,11 @@ impl<'a> ProblemReader<'a> {
     {
         match lexeme {
             Lexeme::Name(text) => match logic_of(text) {
-                Some(Logic::Lkf) => {
-                    self.phase = Phase::Reading;
+                Some(logic) => {
+                    self.formula.turn_to(logic);
+                    self.phase = Phase::Reading(logic);
                     Ok(())
                 }
-                Some(Logic::Ljf) => Err(TokenRefusal::Refused(Code::NotBuilt)),
                 None => Err(TokenRefusal::Refused(Code::Unexpected)),
             },
             _ => Err(TokenRefusal::Refused(Code::Unexpected)),
@@ -180,26 +178,26 @@ impl<'a> ProblemReader<'a> {
     }
 
     /// Takes the dot behind the formula.
-    fn take_dot(&mut self, names: &Names) -> Result<(), TokenRefusal>
-        ensures { (s : ProblemState) → HoldsProblem names.now s self.old → self.old.phase ≡ Phase.Reading → TakesProblem result names.now (limited_problem s (a_sign Dot)) self.new }
+    fn take_dot(&mut self, names: &Names, logic: Logic) -> Result<(), TokenRefusal>
+        ensures { (s : ProblemState) → HoldsProblem names.now s self.old → self.old.phase ≡ Phase.Reading logic → TakesProblem result names.now (limited_problem s (a_sign Dot)) self.new }
     {
         names.distinct();
         if !self.formula.is_whole() {
             return Err(TokenRefusal::Refused(Code::Unexpected));
         }
-        self.phase = Phase::Finished;
+        self.phase = Phase::Finished(logic);
         Ok(())
     }
 
-    /// The goal, at the end of a file of so many bytes.
-    fn finish(self, length: usize) -> Result<Formula, ParseRefusal>
-        ensures ok { (names : List (List ℕ)) (s : ProblemState) → HoldsProblem names s self.entry → IfOk result (GoalOf names s) }
+    /// The problem, at the end of a file of so many bytes.
+    fn finish(self, length: usize) -> Result<Problem, ParseRefusal>
+        ensures ok { (names : List (List ℕ)) (s : ProblemState) → HoldsProblem names s self.entry → IfOk result (λ p. GoalOf names s p.logic p.goal) }
         ensures err { (names : List (List ℕ)) (s : ProblemState) → HoldsProblem names s self.entry → IfErr result (IsUnfinished length s) }
     {
         let phase = self.phase;
         match phase {
-            Phase::Finished => match self.formula.finish() {
-                Ok(Some(goal)) => Ok(goal),
+            Phase::Finished(logic) => match self.formula.finish() {
+                Ok(Some(goal)) => Ok(Problem { logic, goal }),
                 // A whole formula was read, so only memory can be missing.
                 Ok(None) | Err(_) => Err(ParseRefusal::OutOfMemory),
             },

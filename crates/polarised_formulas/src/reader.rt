@@ -163,6 +163,13 @@ impl<'a> FormulaReader<'a> {
         }
     }
 
+    /// Makes this logic that of the formula that is to come.
+    pub(crate) fn turn_to(&mut self, logic: Logic)
+        ensures { self.new ≡ record self.old { logic = logic } }
+    {
+        self.logic = logic;
+    }
+
     /// Takes a token. Names and parameters are looked up in the tables. What follows a refusal means nothing.
     pub fn take(
         &mut self,

@@ -136,6 +136,42 @@ fn problems_are_refused_before_certificates(rt: HostRuntime) -> Result<(), Fail>
 }
 
 #[test]
+fn problems_of_ljf_are_not_built(rt: HostRuntime) -> Result<(), Fail> {
+    let alloc = rt.alloc();
+    for (problem, text) in [
+        ("ljf (+p => +p).\n", "refused problem 0 NotBuilt at 0\n"),
+        (" \n\tljf (+p => +p).", "refused problem 0 NotBuilt at 3\n"),
+        ("% ljf\nljf -p.", "refused problem 0 NotBuilt at 6\n"),
+        (" ljf x", "refused problem 2 Unexpected at 5\n"),
+        ("ljf (+p", "refused problem 2 Unexpected at 7\n"),
+        ("ljf p.", "refused problem 2 Unexpected at 4\n"),
+        ("ljf +p. &", "refused problem 1 BadByte at 8\n"),
+    ] {
+        for explicit in [None, Some(EXPLICIT)] {
+            let got = verified(alloc, problem.as_bytes(), explicit, None, 7, None)?;
+            expect(&rt, got, 3, text);
+        }
+    }
+    Ok(())
+}
+
+#[test]
+fn no_certificate_is_opened_for_ljf(rt: HostRuntime) -> Result<(), Fail> {
+    let alloc = rt.alloc();
+    let table = [
+        (0u64, 5, "read fault\n"),
+        (1, 5, "read fault\n"),
+        (2, 5, "read fault\n"),
+        (3, 3, "refused problem 0 NotBuilt at 0\n"),
+    ];
+    for (call, status, text) in table {
+        let got = verified(alloc, b"ljf +p.", Some(EXPLICIT), Some(call), 65_536, None)?;
+        expect(&rt, got, status, text);
+    }
+    Ok(())
+}
+
+#[test]
 fn faults_of_files_and_sinks_are_told(rt: HostRuntime) -> Result<(), Fail> {
     let alloc = rt.alloc();
     let problem = PROBLEM.as_bytes();

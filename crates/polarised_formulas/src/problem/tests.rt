@@ -1,4 +1,5 @@
 use super::*;
+use crate::print::print_problem;
 use std::alloc::AllocError;
 use std::process::Abort;
 use std::test::Fail;
@@ -38,7 +39,7 @@ fn check_repeated(
 
 #[test]
 fn problems_are_read_or_refused(rt: HostRuntime) {
-    let table: [(&[u8], Option<(Code, usize)>); 18] = [
+    let table: [(&[u8], Option<(Code, usize)>); 17] = [
         (b"lkf (p |- ~p).", None),
         (b"lkf p.\n", None),
         (b"lkf tt+.", None),
@@ -47,7 +48,6 @@ fn problems_are_read_or_refused(rt: HostRuntime) {
         (b"", Some((Code::Unexpected, 0))),
         (b"lkf (p |- lon", Some((Code::Unexpected, 13))),
         (b"lkf (p & q).", Some((Code::BadByte, 7))),
-        (b"ljf +p.", Some((Code::NotBuilt, 0))),
         (b"lkg p.", Some((Code::Unexpected, 0))),
         (b"lkf p", Some((Code::Unexpected, 5))),
         (b"lkf p..", Some((Code::Unexpected, 6))),
@@ -64,12 +64,73 @@ fn problems_are_read_or_refused(rt: HostRuntime) {
 }
 
 #[test]
+fn problems_of_ljf_are_read_or_refused(rt: HostRuntime) {
+    let table: [(&[u8], Option<(Code, usize)>); 24] = [
+        (b"ljf +p.", None),
+        (b"ljf -p.\n", None),
+        (b"ljf (+p => +p).", None),
+        (b"ljf (+p | ff).", None),
+        (b"ljf (tt+ &+ -q).", None),
+        (b"ljf (tt- &- -q).", None),
+        (b"ljf all X: some Y: (+p(X,f(Y,a)) => -q(Y)).", None),
+        (b"ljf", Some((Code::Unexpected, 3))),
+        (b" ljf x", Some((Code::Unexpected, 5))),
+        (b"ljf (+p", Some((Code::Unexpected, 7))),
+        (b"ljf (+p).", Some((Code::Unexpected, 7))),
+        (b"ljf +p(X).", Some((Code::Unexpected, 7))),
+        (b"ljf (+p := +q).", Some((Code::Unexpected, 8))),
+        (b"ljf (+p |- +q).", Some((Code::Unexpected, 8))),
+        (b"ljf (+p |+ +q).", Some((Code::Unexpected, 8))),
+        (b"ljf p.", Some((Code::Unexpected, 4))),
+        (b"ljf ~p.", Some((Code::Unexpected, 4))),
+        (b"ljf ff+.", Some((Code::Unexpected, 4))),
+        (b"ljf ff-.", Some((Code::Unexpected, 4))),
+        (b"lkf (p => q).", Some((Code::Unexpected, 7))),
+        (b"lkf (p | q).", Some((Code::Unexpected, 7))),
+        (b"lkf +p.", Some((Code::Unexpected, 4))),
+        (b"lkf -p.", Some((Code::Unexpected, 4))),
+        (b"lkf ff.", Some((Code::Unexpected, 4))),
+    ];
+    for (text, refused) in table {
+        check(&rt, rt.alloc(), text, refused);
+    }
+}
+
+/// Checks that a printed problem is one of this logic, and is printed so again.
+fn check_printed(rt: &impl Abort, alloc: Global, text: &[u8], logic: Logic) -> Result<(), Fail> {
+    let mut names = Names::new(alloc);
+    let problem = read_problem(alloc, &mut names, text)?;
+    assert_eq!(rt; problem.logic, logic);
+    let printed = print_problem(alloc, &names, &problem)?;
+    assert_eq!(rt; printed.as_slice(), text);
+    Ok(())
+}
+
+#[test]
+fn problems_are_printed_and_read_back(rt: HostRuntime) -> Result<(), Fail> {
+    let table: [(&[u8], Logic); 3] = [
+        (b"lkf all X0 : (p(X0) |- ~q(a,X0)).\n", Logic::Lkf),
+        (
+            b"ljf all X0 : (some X1 : +e(X0,X1) => (-d(X0) &- tt+)).\n",
+            Logic::Ljf,
+        ),
+        (b"ljf ((+p | ff) => (tt- &+ -p)).\n", Logic::Ljf),
+    ];
+    for (text, logic) in table {
+        check_printed(&rt, rt.alloc(), text, logic)?;
+    }
+    Ok(())
+}
+
+#[test]
 fn limits_are_kept(rt: HostRuntime) -> Result<(), Fail> {
-    let table: [(&[u8], u8, usize, &[u8], Option<(Code, usize)>); 5] = [
+    let table: [(&[u8], u8, usize, &[u8], Option<(Code, usize)>); 7] = [
         (b"lkf ", b'a', 255, b".", None),
         (b"lkf ", b'a', 256, b".", Some((Code::LongName, 4))),
         (b"lkf ", b'(', 10_000, b"", Some((Code::Unexpected, 10_004))),
         (b"lkf ", b'(', 10_001, b"", Some((Code::TooDeep, 10_004))),
+        (b"ljf ", b'(', 10_001, b"", Some((Code::TooDeep, 10_004))),
+        (b"ljf +", b'a', 256, b".", Some((Code::LongName, 5))),
         (
             b"lkf p.",
             b' ',
@@ -129,7 +190,12 @@ fn check_cuts(rt: &impl Abort, alloc: Global, text: &[u8]) {
 
 #[test]
 fn cuts_are_refused(rt: HostRuntime) {
-    let problems: [&[u8]; 2] = [b"lkf (p |- ~p).", b"lkf all X: (p(X,f(a)) |- tt+)."];
+    let problems: [&[u8]; 4] = [
+        b"lkf (p |- ~p).",
+        b"lkf all X: (p(X,f(a)) |- tt+).",
+        b"ljf (+p => (-q | ff)).",
+        b"ljf some X: (-p(X,f(a)) &- tt+).",
+    ];
     for problem in problems {
         check_cuts(&rt, rt.alloc(), problem);
     }

@@ -1,8 +1,8 @@
-use Rattle.std.proofs.Common.{◌≡◌, length}
+use Rattle.std.proofs.Common.{length}
 use Rattle.fpc_base.specs.Lexeme.{items_left, items_of}
 use Rattle.fpc_terms.specs.Name.{Grows}
 use Rattle.polarised_formulas.proofs.ProblemFacts.{IsOn}
-use Rattle.polarised_formulas.proofs.problem.read_goal.Given as goal
+use Rattle.polarised_formulas.proofs.problem.read_tokens.Given as goal
 
 abbrev pub invariant-reading : goal.invariant-reading
 invariant-reading l = record {

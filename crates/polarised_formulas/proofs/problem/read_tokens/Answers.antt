@@ -1,8 +1,8 @@
-use Rattle.std.proofs.Common.{◌≡◌, [], ◌∷◌, map, ap, sym, ◌∙◌, refl}
+use Rattle.std.proofs.Common.{◌≡◌, [], ◌∷◌, map, ap}
 use Rattle.fpc_base.specs.Lexeme.{says, lexeme_as, items_left, item_of}
 use Rattle.fpc_terms.proofs.TokenNames.{named-from-form}
 use Rattle.polarised_formulas.proofs.ProblemFacts.{IsOn-start, IsOn-taken, IsOn-refused, IsOn-fault, IsOn-finished, IsOn-ended}
-use Rattle.polarised_formulas.proofs.problem.read_goal.Goals as goal
+use Rattle.polarised_formulas.proofs.problem.read_tokens.Goals as goal
 
 pub reading-init : goal.reading-init
 reading-init c = record {
