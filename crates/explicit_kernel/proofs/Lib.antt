@@ -8,3 +8,4 @@ pub mod Standing
 pub mod JudgmentLaws
 pub mod RejectionLaws
 pub mod RefusalLaws
+mod Ticks

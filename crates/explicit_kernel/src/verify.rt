@@ -5,6 +5,9 @@ ghost use Rattle.polarised_formulas.specs.Formula.{IsClosed, IsLkf};
 ghost use Rattle.polarised_formulas.specs.declared.logic.Logic.TheVariants.{Lkf};
 ghost use Rattle.explicit_kernel.specs.Check.{IsJudged, IsRight, HasReason, IsAnswerTo};
 
+#[cfg(test)]
+mod tests;
+
 use crate::check::{Check, Stop};
 use fpc_base::outside::{Failed, Source};
 use fpc_base::refusal::Refusal;

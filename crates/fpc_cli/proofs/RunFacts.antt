@@ -54,8 +54,15 @@ module _ (names : List (List ℕ)) (differ : AreDifferent names) (goal : Formula
   verified-so : (answer : Result Verdict VerifyRefusal) (h : IsJudged names goal old new before now answer) (P : ℕ → Judgment → Type 0)
       → ((number : List ℕ → ℕ) → Agrees number names → P (length h.bytes) (judgment number goal (h.bytes ++ left_of new))) → IsVerified problem explicit new P
   verified-so answer h P so = record {
-    names = names; different = differ; goal = goal; spelled = spelled; closed = closed; lkf = lkf; taken = h.bytes;
-    held = held-so explicit old new h.bytes start h.taken; judged = so;
+    names = names;
+    different = differ;
+    goal = goal;
+    spelled = spelled;
+    closed = closed;
+    lkf = lkf;
+    taken = h.bytes;
+    held = held-so explicit old new h.bytes start h.taken;
+    judged = so;
   }
 
   whole : (bytes : List ℕ) (number : List ℕ → ℕ) (j : Judgment) → IsAtEnd new → judgment number goal bytes ≡ j → judgment number goal (bytes ++ left_of new) ≡ j
@@ -69,11 +76,16 @@ module _ (names : List (List ℕ)) (differ : AreDifferent names) (goal : Formula
 
   pub is-refused : (r : Refusal) → IsJudged names goal old new before now (Err (RefusedAt r)) → IsVerified problem explicit new (IsRefused r)
   is-refused r h = verified-so (Err (RefusedAt r)) h (IsRefused r) (λ number agrees.
-      let s = h.shown number agrees in
-      (s.0, (elim s.1.1 [
-        | inl end ↦ whole h.bytes number (refused r s.0) end s.1.0
-        | inr shown ↦ judgment_stays number goal h.bytes (left_of new) (refused r s.0) shown
-      ], s.1.2)))
+      let s = h.shown number agrees in (
+        s.0,
+        (
+          elim s.1.1 [
+            | inl end ↦ whole h.bytes number (refused r s.0) end s.1.0
+            | inr shown ↦ judgment_stays number goal h.bytes (left_of new) (refused r s.0) shown
+          ],
+          s.1.2,
+        ),
+      ))
 
 -- the cause of an answer is that of the verdict
 pub caused-so : (known names : List (List ℕ)) → Grows known names → AreDifferent names → (goal : Formula) (p e : List ℕ) (content : List ℕ → Content) → SpellsGoal known (content p) goal → IsClosed goal → IsLkf goal

@@ -11,5 +11,5 @@ returns-clause-caused g c = λ p s m.
     let ok = sym c.is_err.ensures.value ∙ c.if-is_err.false in
     let opened = from-ok c.open.result ok c.open.ensures.opened in
     moved _ _ _ _ (λ X x. SpellsGoal c.args.names.now (X p) c.args.problem.now.goal → HasFilesTo Explicit (verify p c.args.name.now) X → IsAtStartOf (X c.args.name.now) (g.F.Source.left c.open.new.self)
-        → IsCaused (verify p c.args.name.now) X (g.F.Source.left c.judged.new.files) x (g.F.Source.faults c.judged.new.files) c.judged.result)
+    → IsCaused (verify p c.args.name.now) X (g.F.Source.left c.judged.new.files) x (g.F.Source.faults c.judged.new.files) c.judged.result)
     c.open.ensures.content (from-ok c.open.result ok c.open.ensures.ok_count) (c.judged.ensures.caused p c.args.name.now) s (m, opened-there _ _ opened) opened

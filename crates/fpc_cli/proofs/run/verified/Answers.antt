@@ -11,5 +11,5 @@ returns-clause-caused g c = c.in-Err.ensures.caused c.args.explicit.now
 pub returns-in-Ok-clause-caused : goal.returns-in-Ok-clause-caused
 returns-in-Ok-clause-caused g c =
     moved _ _ _ _ (λ X x. SpellsGoal c.problem_in.new.names (X c.args.problem.now) c.in-Ok.problem.goal → X c.args.problem.now ≢ missing
-        → IsCaused (verify c.args.problem.now c.args.explicit.now) X (g.F.Source.left c.checked.new.files) x (g.F.Source.faults c.checked.new.files) c.checked.result)
+    → IsCaused (verify c.args.problem.now c.args.explicit.now) X (g.F.Source.left c.checked.new.files) x (g.F.Source.faults c.checked.new.files) c.checked.result)
     c.problem_in.ensures.content c.in-Ok.ensures.count (c.checked.ensures.caused c.args.problem.now) c.in-Ok.ensures.spelled c.in-Ok.ensures.there
