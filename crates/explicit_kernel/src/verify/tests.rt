@@ -1,12 +1,15 @@
 //! Certificates from a source in memory: what they come to, with their ticks, and reads that fail.
-ghost use Rattle.std.specs.Prelude.{◌≡◌, ℕ, ◌+◌, ◌<◌, Ok};
-ghost use Rattle.polarised_formulas.specs.Formula.{IsClosed, IsLkf};
+ghost use Rattle.std.specs.Prelude.{◌≡◌, ℕ, ◌+◌, ◌<◌, true, false, codes, List, Ok, Err};
+ghost use Rattle.fpc_terms.specs.Name.{Agrees};
+ghost use Rattle.fpc_terms.specs.Term.{no_args};
+ghost use Rattle.polarised_formulas.specs.Formula.{IsClosed, IsLkf, disj, atom};
 ghost use Rattle.polarised_formulas.specs.declared.logic.Logic.TheVariants.{Lkf};
-ghost use Rattle.explicit_kernel.specs.declared.verify.Verdict.TheVariants.{Accepted, Rejected};
+ghost use Rattle.explicit_kernel.specs.Judgment.{accepted, rejected, refused, judgment};
 
 use super::*;
 use fpc_base::memory::MemSource;
 use fpc_base::refusal::Code;
+use polarised_formulas::logic::Polarity;
 use polarised_formulas::problem::read_problem;
 use std::marker::Brand;
 use std::process::Abort;
@@ -21,8 +24,15 @@ const ONE_TOO_MANY: &[u8] = b"fpc 1 lkf\nor-\nstore\nstore\ndecide 0\ninit 1\nin
 /// It is refused at the byte 34.
 const WRONG_NUMBER: &[u8] = b"fpc 1 lkf\nor-\nstore\nstore\ndecide 00\ninit 1\nend\n";
 
-/// The verdict on what a source holds. An accepted certificate has as many ticks as steps, a rejected one as many as there are
-/// before the step that is told.
+/// The judgment of the three of them for `(p |- ~p)`, where three steps fit before what is refused.
+fn judgments()
+    ensures accepted { (number : List ℕ → ℕ) → judgment number (disj Polarity.Negative (atom true 0 no_args) (atom false 0 no_args)) (codes "fpc 1 lkf\nor-\nstore\nstore\ndecide 0\ninit 1\nend\n") ≡ accepted 5 }
+    ensures rejected { (number : List ℕ → ℕ) → judgment number (disj Polarity.Negative (atom true 0 no_args) (atom false 0 no_args)) (codes "fpc 1 lkf\nor-\nstore\nstore\ndecide 0\ninit 1\ninit 1\nend\n") ≡ rejected 6 48 }
+    ensures refused { (number : List ℕ → ℕ) → judgment number (disj Polarity.Negative (atom true 0 no_args) (atom false 0 no_args)) (codes "fpc 1 lkf\nor-\nstore\nstore\ndecide 00\ninit 1\nend\n") ≡ refused (record { code = Code.Unexpected; at = 34 }) 3 }
+{}
+
+/// The verdict on what a source holds, and its ticks: as many as steps where it is accepted, as many as there are before the step
+/// that is told where it is rejected, and as many as the judgment says where it is refused.
 fn counted<L: Ledger>(
     alloc: Global,
     names: &mut Names,
@@ -33,8 +43,10 @@ fn counted<L: Ledger>(
     requires logic { problem.now.logic ≡ Lkf }
     requires closed { IsClosed problem.now.goal }
     requires lkf { IsLkf problem.now.goal }
-    ensures accepted { (n : ℕ) → result ≡ Ok (Accepted n) → steps.new ≡ steps.old + n }
-    ensures rejected { (k : ℕ) → result ≡ Ok (Rejected k) → steps.new + 1 ≡ steps.old + k }
+    ensures accepted { (n : ℕ) → result ≡ Ok (Verdict.Accepted n) → steps.new ≡ steps.old + n }
+    ensures rejected { (k : ℕ) → result ≡ Ok (Verdict.Rejected k) → steps.new + 1 ≡ steps.old + k }
+    ensures refused { (r : Refusal) → result ≡ Err (VerifyRefusal.Refused r) → (number : List ℕ → ℕ) → Agrees number names.new
+        → (n : ℕ) × ((judgment number problem.now.goal source.old.left ≡ refused r n) × (steps.new ≡ steps.old + n)) }
 {
     let verdict = verify(alloc, names, problem, source, steps);
     names.distinct();
@@ -89,7 +101,7 @@ fn expect(
     Ok(())
 }
 
-fn refused(code: Code, at: usize) -> Result<Verdict, VerifyRefusal> {
+fn refusal(code: Code, at: usize) -> Result<Verdict, VerifyRefusal> {
     Err(VerifyRefusal::Refused(Refusal { code, at }))
 }
 
@@ -99,12 +111,12 @@ fn certificates_come_to_a_verdict(rt: HostRuntime) -> Result<(), Fail> {
     let table: [(&[u8], Result<Verdict, VerifyRefusal>); 8] = [
         (CERTIFICATE, Ok(Verdict::Accepted { steps: 5 })),
         (ONE_TOO_MANY, Ok(Verdict::Rejected { at: 6 })),
-        (WRONG_NUMBER, refused(Code::Unexpected, 34)),
+        (WRONG_NUMBER, refusal(Code::Unexpected, 34)),
         (b"fpc 1 lkf\nend\n", Ok(Verdict::Rejected { at: 1 })),
-        (b"fpc 1 lkf\nor-\nstore\n", refused(Code::Unexpected, 20)),
+        (b"fpc 1 lkf\nor-\nstore\n", refusal(Code::Unexpected, 20)),
         (b"fpc 1 lkf\nor-\nstore\ntt-\nend\n", Ok(Verdict::Rejected { at: 3 })),
-        (b"fpc 1 ljf\nend\n", refused(Code::WrongCalculus, 6)),
-        (b"", refused(Code::Unexpected, 0)),
+        (b"fpc 1 ljf\nend\n", refusal(Code::WrongCalculus, 6)),
+        (b"", refusal(Code::Unexpected, 0)),
     ];
     for (certificate, verdict) in table {
         let mut source = source_of(alloc, certificate, None, 65_536)?;
@@ -146,7 +158,7 @@ fn a_read_that_fails_is_told_behind_good_bytes(rt: HostRuntime) -> Result<(), Fa
         (ONE_TOO_MANY, 6, fault),
         (ONE_TOO_MANY, 7, Ok(Verdict::Rejected { at: 6 })),
         (WRONG_NUMBER, 4, fault),
-        (WRONG_NUMBER, 5, refused(Code::Unexpected, 34)),
+        (WRONG_NUMBER, 5, refusal(Code::Unexpected, 34)),
     ];
     for (certificate, call, verdict) in table {
         let mut source = source_of(alloc, certificate, Some(call), 7)?;
