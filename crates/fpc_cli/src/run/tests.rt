@@ -321,11 +321,9 @@ fn problems_beyond_the_limits_are_refused(rt: HostRuntime) -> Result<(), Fail> {
 #[test]
 fn a_problem_of_too_many_bytes_is_refused(rt: HostRuntime) -> Result<(), Fail> {
     let alloc = rt.alloc();
-    let large = vec![in alloc; b'p'; 16_777_217]?;
-    let mut files = files_of(alloc, large.as_slice(), None, None, 65_536)?;
-    let got = told(alloc, &mut files, None)?;
-    expect(&rt, got, 3, b"refused problem 7 TooLarge at 16777216\n");
-    Ok(())
+    let large = vec![in alloc; b'x'; 16_777_217]?;
+    let text = "refused problem 7 TooLarge at 16777216\n";
+    expect_row(&rt, alloc, large.as_slice(), None, 3, text)
 }
 
 /// Expects a read fault where one of the first so many calls on the files fails, and the answer where the next one does.
