@@ -122,7 +122,14 @@ pub fn verify<S: Source, L: Ledger>(
         Ok(buffer) => buffer,
         Err(_) => return Err(VerifyRefusal::OutOfMemory),
     };
-    let verdict = verify_through(alloc, names, &problem.goal, source, buffer.as_mut_slice(), steps);
+    let verdict = verify_through(
+        alloc,
+        names,
+        &problem.goal,
+        source,
+        buffer.as_mut_slice(),
+        steps,
+    );
     names.distinct();
     verdict
 }

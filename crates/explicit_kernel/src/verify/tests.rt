@@ -114,7 +114,10 @@ fn certificates_come_to_a_verdict(rt: HostRuntime) -> Result<(), Fail> {
         (WRONG_NUMBER, refusal(Code::Unexpected, 34)),
         (b"fpc 1 lkf\nend\n", Ok(Verdict::Rejected { at: 1 })),
         (b"fpc 1 lkf\nor-\nstore\n", refusal(Code::Unexpected, 20)),
-        (b"fpc 1 lkf\nor-\nstore\ntt-\nend\n", Ok(Verdict::Rejected { at: 3 })),
+        (
+            b"fpc 1 lkf\nor-\nstore\ntt-\nend\n",
+            Ok(Verdict::Rejected { at: 3 }),
+        ),
         (b"fpc 1 ljf\nend\n", refusal(Code::WrongCalculus, 6)),
         (b"", refusal(Code::Unexpected, 0)),
     ];
