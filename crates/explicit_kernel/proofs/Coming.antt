@@ -126,11 +126,11 @@ module _ (known names : List (List ℕ)) (goal : Formula) (before bytes : List �
     line number agrees =
         let ran = run-append number Lkf start before (take n bytes) in
         let untold : AreUntold number Lkf (run number Lkf start before) (length before) (take n bytes) =
-            subst (λ m. AreUntold number Lkf (run number Lkf start before) m (take n bytes)) (zero-add (length before)) (untold-behind number before (take n bytes) start 0 (fed.0.untold number agrees))
+        subst (λ m. AreUntold number Lkf (run number Lkf start before) m (take n bytes)) (zero-add (length before)) (untold-behind number before (take n bytes) start 0 (fed.0.untold number agrees))
         in
         let some : 0 < length (take n bytes) = (let l = length-take-le n bytes within in omega (arith, l)) in
         let leads = line-leads number (take n bytes) (run number Lkf start before) (length before) mid.play.pending mid.play.fitted mid.reader.step
-            (open-before number (take n bytes) (run number Lkf start before) (length before) some untold) untold (ap done_of (sym ran) ∙ fed.1 number agrees)
+        (open-before number (take n bytes) (run number Lkf start before) (length before) some untold) untold (ap done_of (sym ran) ∙ fed.1 number agrees)
         in
         (leads.0, (leads.1.0, here number agrees (take n bytes) ∙ leads.1.1 ∙ ap (λ st. fitting leads.0 st mid.reader.step mid.play.pending mid.play.fitted) (sym ran)))
 
@@ -187,14 +187,13 @@ module _ (known names : List (List ℕ)) (goal : Formula) (before bytes : List �
       let ran : run number Lkf start (before ++ told.front) ≡ run number Lkf st told.front = run-append number Lkf start before told.front in
       let long = length-append before told.front in
       let is_going : IsGoing (run number Lkf start (before ++ told.front)) =
-          subst IsGoing (sym ran) (untold-going number Lkf told.front st (length before) (untold-going number Lkf before start 0 tt (come.read.untold number agrees_then)) told.untold)
+      subst IsGoing (sym ran) (untold-going number Lkf told.front st (length before) (untold-going number Lkf before start 0 tt (come.read.untold number agrees_then)) told.untold)
       in
       let place = refusal-place number (before ++ told.front) told.byte x is_going
-          (subst (λ s. fault (length (before ++ told.front)) s (go number Lkf s told.byte) ≡ Some x) (sym ran) (subst (λ n. fault n (run number Lkf st told.front) (go number Lkf (run number Lkf st told.front) told.byte) ≡ Some x) (sym long) told.told))
-      in
-      (
+      (subst (λ s. fault (length (before ++ told.front)) s (go number Lkf s told.byte) ≡ Some x) (sym ran) (subst (λ n. fault n (run number Lkf st told.front) (go number Lkf (run number Lkf st told.front) told.byte) ≡ Some x) (sym long) told.told))
+      in (
         here number agrees bytes
-        ∙ line-refused number bytes told.front told.byte told.more st (length before) mid.play.pending mid.play.fitted x told.parts told.untold told.told,
+            ∙ line-refused number bytes told.front told.byte told.more st (length before) mid.play.pending mid.play.fitted x told.parts told.untold told.told,
         omega (arith, place, long),
       )
 

@@ -141,7 +141,7 @@ module _ (number : List ℕ → ℕ) where
       here t with_t is same (Some r) fits =
           let w = is_whole-step number Lkf st b t with_t in
           let first : advance number place (going st q n) b ≡ going next r (suc n) =
-              advance-untold st place b q n h.0 ∙ ap (λ o. fitting place next o q n) (with_t ∙ ap Some is) ∙ ap (λ o. playing place next o n) fits ∙ closing-open place next r (suc n) (inr w)
+          advance-untold st place b q n h.0 ∙ ap (λ o. fitting place next o q n) (with_t ∙ ap Some is) ∙ ap (λ o. playing place next o n) fits ∙ closing-open place next r (suc n) (inr w)
           in
           let rest = no-step bytes next (suc place) r (suc n) (inr w) h.1 same in
           (rest.0, (let low = rest.1.0 in omega (arith, low), ap (λ d. course number (suc place) d bytes) first ∙ rest.1.1 ∙ ap (λ o. playing rest.0 (run number Lkf next bytes) o n) (sym fits)))
@@ -207,10 +207,10 @@ module _ (number : List ℕ → ℕ) where
           let next = go number Lkf st d in
           let m : place + suc (length front) ≡ suc place + length front = omega arith in
           let told' : fault (suc place + length front) (run number Lkf next front) (go number Lkf (run number Lkf next front) b) ≡ Some x =
-              subst (λ k. fault k (run number Lkf next front) (go number Lkf (run number Lkf next front) b) ≡ Some x) m
-              (subst (λ a. fault (place + suc (length front)) (run number Lkf (go number Lkf st a) front) (go number Lkf (run number Lkf (go number Lkf st a) front) b) ≡ Some x) same told)
+          subst (λ k. fault k (run number Lkf next front) (go number Lkf (run number Lkf next front) b) ≡ Some x) m
+          (subst (λ a. fault (place + suc (length front)) (run number Lkf (go number Lkf st a) front) (go number Lkf (run number Lkf (go number Lkf st a) front) b) ≡ Some x) same told)
           in
           let first : advance number place (going st q n) d ≡ going next q n =
-              advance-untold st place d q n untold.0 ∙ ap (λ o. fitting place next o q n) (step_with-none number Lkf st d t) ∙ closing-open place next q n (inr (is_whole-none number Lkf st d t))
+          advance-untold st place d q n untold.0 ∙ ap (λ o. fitting place next o q n) (step_with-none number Lkf st d t) ∙ closing-open place next q n (inr (is_whole-none number Lkf st d t))
           in
           ap (λ u. course number (suc place) u bytes) first ∙ on rest untold.1 told'

@@ -9,3 +9,4 @@ pub mod JudgmentLaws
 pub mod RejectionLaws
 pub mod RefusalLaws
 pub mod SameCourses
+mod Ticks

@@ -137,7 +137,7 @@ impl Check {
     {
         match self.reader.finish() {
             Ok(()) => Ok(self.play.fitted),
-            Err(fault) => Err(stop_at(fault)),
+            Err(end) => Err(stop_at(end)),
         }
     }
 }

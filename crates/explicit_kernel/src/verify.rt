@@ -6,6 +6,9 @@ ghost use Rattle.polarised_formulas.specs.declared.logic.Logic.TheVariants.{Lkf}
 ghost use Rattle.explicit_kernel.specs.Check.{IsAnswerTo};
 ghost use Rattle.explicit_kernel.specs.Verdict.{IsJudged, IsRight, HasReason};
 
+#[cfg(test)]
+mod tests;
+
 use crate::check::{Check, Stop};
 use fpc_base::outside::{Failed, Source};
 use fpc_base::refusal::Refusal;
@@ -122,7 +125,14 @@ pub fn verify<S: Source, L: Ledger>(
         Ok(buffer) => buffer,
         Err(_) => return Err(VerifyRefusal::OutOfMemory),
     };
-    let verdict = verify_through(alloc, names, &problem.goal, source, buffer.as_mut_slice(), steps);
+    let verdict = verify_through(
+        alloc,
+        names,
+        &problem.goal,
+        source,
+        buffer.as_mut_slice(),
+        steps,
+    );
     names.distinct();
     verdict
 }

@@ -1,41 +1,43 @@
-//! The worked rows of the first path.
+//! Rows of problems and certificates, the pieces that their files come in, and calls that fail.
 use super::*;
 use fpc_base::memory::{MemFiles, MemSink};
+use fpc_base::outside::Source;
 use std::process::Abort;
 use std::test::Fail;
 
-const PROBLEM: &str = "lkf (p |- ~p).\n";
+const PROBLEM: &[u8] = b"lkf (p |- ~p).\n";
 
-const EXPLICIT: &str = "fpc 1 lkf\nor-\nstore\nstore\ndecide 0\ninit 1\nend\n";
+const DRINKER: &[u8] = b"lkf some X : all Y : (~d(X) |- d(Y)).\n";
 
-/// The status of `verify problem explicit` over two files, and the text that the sink took.
-fn verified(
+const EXPLICIT: &[u8] = b"fpc 1 lkf\nor-\nstore\nstore\ndecide 0\ninit 1\nend\n";
+
+/// Its step 6 comes when no sequent is left.
+const ONE_TOO_MANY: &[u8] = b"fpc 1 lkf\nor-\nstore\nstore\ndecide 0\ninit 1\ninit 1\nend\n";
+
+/// Its step 9 does not fit, and ends with the byte 65.
+const WRONG_DECIDE: [u8; 77] =
+    *b"fpc 1 lkf\nor-\nstore\nstore\ncut tt+\nstore\ndecide 2\ntt+\nff-\ndecide 2\ninit 1\nend\n";
+
+/// The files `problem` and `explicit`; the call of the number fails.
+fn files_of(
     alloc: Global,
     problem: &[u8],
-    explicit: Option<&str>,
+    explicit: Option<&[u8]>,
     failing: Option<u64>,
     piece: usize,
-    sink_failing: Option<u64>,
-) -> Result<(u8, Vec<u8>), Fail> {
+) -> Result<MemFiles, Fail> {
     let mut files = Vec::new(alloc);
     files.push((
         String::from_str(alloc, "problem")?,
         Vec::from_slice(alloc, problem)?,
     ))?;
-    if let Some(text) = explicit {
+    if let Some(bytes) = explicit {
         files.push((
             String::from_str(alloc, "explicit")?,
-            Vec::from_slice(alloc, text.as_bytes())?,
+            Vec::from_slice(alloc, bytes)?,
         ))?;
     }
-    let mut words = Words::new(alloc);
-    for word in ["verify", "problem", "explicit"] {
-        words.push(String::from_str(alloc, word)?)?;
-    }
-    let mut files = MemFiles::new(files, numbers(alloc, failing)?, piece.max(1));
-    let mut out = MemSink::new(alloc, 100, numbers(alloc, sink_failing)?, 10)?;
-    let status = run(alloc, &words, &mut files, &mut out);
-    Ok((status.code, Vec::from_slice(alloc, out.bytes())?))
+    Ok(MemFiles::new(files, numbers(alloc, failing)?, piece.max(1)))
 }
 
 fn numbers(alloc: Global, number: Option<u64>) -> Result<Vec<u64>, Fail> {
@@ -46,111 +48,290 @@ fn numbers(alloc: Global, number: Option<u64>) -> Result<Vec<u64>, Fail> {
     Ok(numbers)
 }
 
-fn expect(rt: &impl Abort, got: (u8, Vec<u8>), status: u8, text: &str) {
+/// The words of a list, one behind each blank but the first.
+fn words_of(alloc: Global, list: &str) -> Result<Words, Fail> {
+    let mut words = Words::new(alloc);
+    for word in list.split(' ') {
+        words.push(String::from_str(alloc, word)?)?;
+    }
+    Ok(words)
+}
+
+/// The status of `verify problem explicit`, and the text that a sink took by ten bytes; its call of the number fails.
+fn told(alloc: Global, files: &mut MemFiles, failing: Option<u64>) -> Result<(u8, Vec<u8>), Fail> {
+    let words = words_of(alloc, "verify problem explicit")?;
+    let mut out = MemSink::new(alloc, 100, numbers(alloc, failing)?, 10)?;
+    let status = run(alloc, &words, files, &mut out);
+    Ok((status.code, Vec::from_slice(alloc, out.bytes())?))
+}
+
+fn expect(rt: &impl Abort, got: (u8, Vec<u8>), status: u8, text: &[u8]) {
     assert_eq!(rt; got.0, status);
-    assert!(rt; got.1.as_slice() == text.as_bytes());
+    assert!(rt; got.1.as_slice() == text);
+}
+
+/// Expects the answer to a problem and a certificate, in each of three pieces.
+fn expect_row(
+    rt: &impl Abort,
+    alloc: Global,
+    problem: &[u8],
+    explicit: Option<&[u8]>,
+    status: u8,
+    text: &str,
+) -> Result<(), Fail> {
+    for piece in [1usize, 7, 65_536] {
+        let mut files = files_of(alloc, problem, explicit, None, piece)?;
+        expect(rt, told(alloc, &mut files, None)?, status, text.as_bytes());
+    }
+    Ok(())
 }
 
 #[test]
 fn certificates_are_judged_line_by_line(rt: HostRuntime) -> Result<(), Fail> {
-    let table = [
+    let table: [(&[u8], u8, &str); 8] = [
         (EXPLICIT, 0, "accepted, 5 steps\n"),
+        (ONE_TOO_MANY, 1, "rejected at step 6\n"),
         (
-            "fpc 1 lkf\nor-\nstore\nstore\ndecide 0\nend\n",
+            b"fpc 1 lkf\nor-\nstore\nstore\ndecide 0\nend\n",
             1,
             "rejected at step 5\n",
         ),
         (
-            "fpc 1 lkf\nor-\nstore\nstore\ndecide 0\ninit 1\ninit 1\nend\n",
-            1,
-            "rejected at step 6\n",
-        ),
-        (
-            "fpc 1 lkf\nor-\nstore\nstore\ndecide 1\ninit 0\nend\n",
+            b"fpc 1 lkf\nor-\nstore\nstore\ndecide 1\ninit 0\nend\n",
             1,
             "rejected at step 4\n",
         ),
         (
-            "fpc 1 lkf\nor-\nstore\nstore\ndecide 0\ninit 0\nend\n",
+            b"fpc 1 lkf\nor-\nstore\nstore\ndecide 0\ninit 0\nend\n",
             1,
             "rejected at step 5\n",
         ),
-        ("fpc 1 lkf\nend\nmore", 1, "rejected at step 1\n"),
+        (b"fpc 1 lkf\nend\nmore", 1, "rejected at step 1\n"),
         (
-            "fpc 1 lkf\nor-\nstore\nstore\ndecide 00\ninit 1\nend\n",
-            3,
-            "refused explicit 0 NotBuilt at 26\n",
+            b"fpc 1 lkf\nor-\nstore\nstore\ncut tt+\nstore\ndecide 2\ntt+\nff-\ndecide 0\ninit 1\nend\n",
+            0,
+            "accepted, 10 steps\n",
         ),
-        (
-            "fpc 1 lkf\nor-\nstore\nstore\ndecide 0\ninit 1\nend",
-            3,
-            "refused explicit 0 NotBuilt at 42\n",
-        ),
-        (
-            "fpc 1 lkf\nor-\nstore\nstore\ndecide 0\ninit 1\n",
-            3,
-            "refused explicit 0 NotBuilt at 42\n",
-        ),
-        (
-            "fpc 1 lkf\nor-\nstore\nstore\ndecide 0\ninit 1\nend\n\n",
-            3,
-            "refused explicit 0 NotBuilt at 46\n",
-        ),
-        ("fpc 1 ljf\nend\n", 3, "refused explicit 0 NotBuilt at 0\n"),
-        ("", 3, "refused explicit 0 NotBuilt at 0\n"),
+        (&WRONG_DECIDE, 1, "rejected at step 9\n"),
     ];
     for (explicit, status, text) in table {
-        for piece in [1usize, 7, 65_536] {
-            let got = verified(
-                rt.alloc(),
-                PROBLEM.as_bytes(),
-                Some(explicit),
-                None,
-                piece,
-                None,
-            )?;
-            expect(&rt, got, status, text);
+        expect_row(&rt, rt.alloc(), PROBLEM, Some(explicit), status, text)?;
+    }
+    Ok(())
+}
+
+#[test]
+fn certificates_are_refused_at_their_first_wrong_byte(rt: HostRuntime) -> Result<(), Fail> {
+    let table: [(&[u8], &str); 8] = [
+        (
+            b"fpc 1 lkf\nor-\nstore\nstore\ndecide 00\ninit 1\nend\n",
+            "refused explicit 2 Unexpected at 34\n",
+        ),
+        (
+            b"fpc 1 lkf\nor-\nstore\nstore\ndecide 0\ninit 1\nend",
+            "refused explicit 2 Unexpected at 45\n",
+        ),
+        (
+            b"fpc 1 lkf\nor-\nstore\nstore\ndecide 0\ninit 1\n",
+            "refused explicit 2 Unexpected at 42\n",
+        ),
+        (
+            b"fpc 1 lkf\nor-\nstore\nstore\ndecide 0\ninit 1\nend\n\n",
+            "refused explicit 2 Unexpected at 46\n",
+        ),
+        (
+            b"fpc 1 ljf\nor-\nend\n",
+            "refused explicit 8 WrongCalculus at 6\n",
+        ),
+        (b"fpc 1 lj", "refused explicit 2 Unexpected at 8\n"),
+        (b"fpc 1 ljx\n", "refused explicit 2 Unexpected at 8\n"),
+        (b"", "refused explicit 2 Unexpected at 0\n"),
+    ];
+    for (explicit, text) in table {
+        expect_row(&rt, rt.alloc(), PROBLEM, Some(explicit), 3, text)?;
+    }
+    Ok(())
+}
+
+#[test]
+fn connectives_units_and_quantifiers_are_played(rt: HostRuntime) -> Result<(), Fail> {
+    let table: [(&[u8], &[u8], u8, &str); 4] = [
+        (
+            b"lkf (p |+ ~p).\n",
+            b"fpc 1 lkf\nstore\ndecide 0\nor+ right\nrelease\nstore\ndecide 0\nor+ left\ninit 1\nend\n",
+            0,
+            "accepted, 8 steps\n",
+        ),
+        (
+            b"lkf tt-.\n",
+            b"fpc 1 lkf\ntt-\nend\n",
+            0,
+            "accepted, 1 steps\n",
+        ),
+        (
+            DRINKER,
+            b"fpc 1 lkf\nstore\ndecide 0\nsome c\nrelease\nall\nor-\nstore\nstore\ndecide 0\nsome $0\nrelease\nall\nor-\nstore\nstore\ndecide 2\ninit 3\nend\n",
+            0,
+            "accepted, 17 steps\n",
+        ),
+        (
+            DRINKER,
+            b"fpc 1 lkf\nstore\ndecide 0\nsome $0\nrelease\nall\nor-\nstore\nstore\ndecide 0\nsome $0\nrelease\nall\nor-\nstore\nstore\ndecide 2\ninit 3\nend\n",
+            1,
+            "rejected at step 3\n",
+        ),
+    ];
+    for (problem, explicit, status, text) in table {
+        expect_row(&rt, rt.alloc(), problem, Some(explicit), status, text)?;
+    }
+    Ok(())
+}
+
+#[test]
+fn a_wrong_step_is_told_whatever_comes_behind_its_line(rt: HostRuntime) -> Result<(), Fail> {
+    for length in 66usize..78 {
+        let explicit = Some(&WRONG_DECIDE[..length]);
+        expect_row(
+            &rt,
+            rt.alloc(),
+            PROBLEM,
+            explicit,
+            1,
+            "rejected at step 9\n",
+        )?;
+    }
+    Ok(())
+}
+
+/// A certificate that is rejected at its step 6, with a million bytes behind the line of this step.
+fn with_much_behind(alloc: Global) -> Result<Vec<u8>, Fail> {
+    let mut bytes = Vec::from_slice(
+        alloc,
+        b"fpc 1 lkf\nor-\nstore\nstore\ndecide 0\ninit 1\ninit 1\n",
+    )?;
+    for _ in 0..1_000_000u32 {
+        bytes.push(b'x')?;
+    }
+    Ok(bytes)
+}
+
+/// How many bytes the open file has left, up to a million.
+fn left_in(files: &mut MemFiles) -> usize {
+    let mut buffer = [0u8; 4096];
+    let mut left = 0usize;
+    for _ in 0..1_000_000u32 {
+        match files.read(&mut buffer) {
+            Ok(0) => return left,
+            Ok(n) => left = left.saturating_add(n),
+            Err(_) => return 0,
         }
+    }
+    left
+}
+
+#[test]
+fn little_is_read_behind_a_wrong_step(rt: HostRuntime) -> Result<(), Fail> {
+    let alloc = rt.alloc();
+    let explicit = with_much_behind(alloc)?;
+    for piece in [1usize, 7, 65_536] {
+        let mut files = files_of(alloc, PROBLEM, Some(explicit.as_slice()), None, piece)?;
+        expect(
+            &rt,
+            told(alloc, &mut files, None)?,
+            1,
+            b"rejected at step 6\n",
+        );
+        assert!(rt; left_in(&mut files) >= 934_464);
     }
     Ok(())
 }
 
 #[test]
 fn problems_are_refused_before_certificates(rt: HostRuntime) -> Result<(), Fail> {
-    let alloc = rt.alloc();
-    for (problem, text) in [
-        ("", "refused problem 2 Unexpected at 0\n"),
-        ("lkf (p |- lon", "refused problem 2 Unexpected at 13\n"),
-        ("lkf (p & q).", "refused problem 1 BadByte at 7\n"),
-        ("ljf +p.", "refused problem 0 NotBuilt at 0\n"),
-        ("% all\nlkf (p |+\t~p) .\n", "read fault\n"),
-    ] {
-        let got = verified(alloc, problem.as_bytes(), None, None, 65_536, None)?;
-        let status = if text == "read fault\n" { 5 } else { 3 };
-        expect(&rt, got, status, text);
+    let table: [(&[u8], u8, &str); 6] = [
+        (b"", 3, "refused problem 2 Unexpected at 0\n"),
+        (b"lkf (p |- lon", 3, "refused problem 2 Unexpected at 13\n"),
+        (b"lkf (p & q).", 3, "refused problem 1 BadByte at 7\n"),
+        (b"ljf +p.", 3, "refused problem 0 NotBuilt at 0\n"),
+        (b" ljf x", 3, "refused problem 0 NotBuilt at 1\n"),
+        (b"% all\nlkf (p |+\t~p) .\n", 5, "read fault\n"),
+    ];
+    for (problem, status, text) in table {
+        expect_row(&rt, rt.alloc(), problem, None, status, text)?;
     }
-    let large = vec![in alloc; b'p'; 16_777_217]?;
-    let got = verified(alloc, large.as_slice(), None, None, 65_536, None)?;
-    expect(&rt, got, 3, "refused problem 7 TooLarge at 16777216\n");
+    Ok(())
+}
+
+/// A problem's beginning, a part of it again and again, and its end.
+fn repeated(
+    alloc: Global,
+    front: &[u8],
+    part: &[u8],
+    times: u32,
+    end: &[u8],
+) -> Result<Vec<u8>, Fail> {
+    let mut bytes = Vec::from_slice(alloc, front)?;
+    for _ in 0..times {
+        bytes.extend_from_slice(part)?;
+    }
+    bytes.extend_from_slice(end)?;
+    Ok(bytes)
+}
+
+#[test]
+fn problems_beyond_the_limits_are_refused(rt: HostRuntime) -> Result<(), Fail> {
+    let alloc = rt.alloc();
+    let table: [(&[u8], &[u8], u32, &[u8], &str); 3] = [
+        (
+            b"lkf ",
+            b"a",
+            256,
+            b".",
+            "refused problem 4 LongName at 4\n",
+        ),
+        (
+            b"lkf p(",
+            b"a,",
+            255,
+            b"a).",
+            "refused problem 5 ManyArguments at 515\n",
+        ),
+        (
+            b"lkf ",
+            b"(",
+            10_001,
+            b"",
+            "refused problem 3 TooDeep at 10004\n",
+        ),
+    ];
+    for (front, part, times, end, text) in table {
+        let problem = repeated(alloc, front, part, times, end)?;
+        expect_row(
+            &rt,
+            alloc,
+            problem.as_slice(),
+            Some(b"fpc 1 lkf\nend\n"),
+            3,
+            text,
+        )?;
+    }
     Ok(())
 }
 
 #[test]
 fn problems_of_ljf_are_not_built(rt: HostRuntime) -> Result<(), Fail> {
-    let alloc = rt.alloc();
-    for (problem, text) in [
-        ("ljf (+p => +p).\n", "refused problem 0 NotBuilt at 0\n"),
-        (" \n\tljf (+p => +p).", "refused problem 0 NotBuilt at 3\n"),
-        ("% ljf\nljf -p.", "refused problem 0 NotBuilt at 6\n"),
-        (" ljf x", "refused problem 2 Unexpected at 5\n"),
-        ("ljf (+p", "refused problem 2 Unexpected at 7\n"),
-        ("ljf p.", "refused problem 2 Unexpected at 4\n"),
-        ("ljf +p. &", "refused problem 1 BadByte at 8\n"),
-    ] {
-        for explicit in [None, Some(EXPLICIT)] {
-            let got = verified(alloc, problem.as_bytes(), explicit, None, 7, None)?;
-            expect(&rt, got, 3, text);
-        }
+    let table: [(&[u8], &str); 7] = [
+        (b"ljf (+p => +p).\n", "refused problem 0 NotBuilt at 0\n"),
+        (b" \n\tljf (+p => +p).", "refused problem 0 NotBuilt at 3\n"),
+        (b"% ljf\nljf -p.", "refused problem 0 NotBuilt at 6\n"),
+        (b" ljf x", "refused problem 2 Unexpected at 5\n"),
+        (b"ljf (+p", "refused problem 2 Unexpected at 7\n"),
+        (b"ljf p.", "refused problem 2 Unexpected at 4\n"),
+        (b"ljf +p. &", "refused problem 1 BadByte at 8\n"),
+    ];
+    for (problem, text) in table {
+        expect_row(&rt, rt.alloc(), problem, None, 3, text)?;
+        expect_row(&rt, rt.alloc(), problem, Some(EXPLICIT), 3, text)?;
     }
     Ok(())
 }
@@ -158,45 +339,104 @@ fn problems_of_ljf_are_not_built(rt: HostRuntime) -> Result<(), Fail> {
 #[test]
 fn no_certificate_is_opened_for_ljf(rt: HostRuntime) -> Result<(), Fail> {
     let alloc = rt.alloc();
-    let table = [
-        (0u64, 5, "read fault\n"),
+    let table: [(u64, u8, &str); 4] = [
+        (0, 5, "read fault\n"),
         (1, 5, "read fault\n"),
         (2, 5, "read fault\n"),
         (3, 3, "refused problem 0 NotBuilt at 0\n"),
     ];
     for (call, status, text) in table {
-        let got = verified(alloc, b"ljf +p.", Some(EXPLICIT), Some(call), 65_536, None)?;
-        expect(&rt, got, status, text);
+        let mut files = files_of(alloc, b"ljf +p.", Some(EXPLICIT), Some(call), 65_536)?;
+        expect(&rt, told(alloc, &mut files, None)?, status, text.as_bytes());
     }
     Ok(())
 }
 
 #[test]
-fn faults_of_files_and_sinks_are_told(rt: HostRuntime) -> Result<(), Fail> {
+fn a_problem_of_too_many_bytes_is_refused(rt: HostRuntime) -> Result<(), Fail> {
     let alloc = rt.alloc();
-    let problem = PROBLEM.as_bytes();
-    expect(
-        &rt,
-        verified(alloc, problem, None, None, 65_536, None)?,
-        5,
-        "read fault\n",
-    );
-    for call in [0u64, 1, 2, 3, 4, 5] {
-        let got = verified(alloc, problem, Some(EXPLICIT), Some(call), 65_536, None)?;
-        expect(&rt, got, 5, "read fault\n");
+    let large = vec![in alloc; b'x'; 16_777_217]?;
+    let text = "refused problem 7 TooLarge at 16777216\n";
+    expect_row(&rt, alloc, large.as_slice(), None, 3, text)
+}
+
+/// Expects a read fault where one of the first so many calls on the files fails, and the answer where the next one does.
+fn expect_calls(
+    rt: &impl Abort,
+    alloc: Global,
+    explicit: &[u8],
+    piece: usize,
+    calls: u64,
+    status: u8,
+    text: &str,
+) -> Result<(), Fail> {
+    for call in 0..calls {
+        let mut files = files_of(alloc, PROBLEM, Some(explicit), Some(call), piece)?;
+        expect(rt, told(alloc, &mut files, None)?, 5, b"read fault\n");
     }
-    let got = verified(alloc, problem, Some(EXPLICIT), Some(6), 65_536, None)?;
-    expect(&rt, got, 0, "accepted, 5 steps\n");
-    let got = verified(alloc, problem, Some(EXPLICIT), None, 65_536, Some(0))?;
-    expect(&rt, got, 6, "");
-    let got = verified(alloc, problem, Some(EXPLICIT), None, 65_536, Some(1))?;
-    expect(&rt, got, 6, "accepted, ");
+    let mut files = files_of(alloc, PROBLEM, Some(explicit), Some(calls), piece)?;
+    expect(rt, told(alloc, &mut files, None)?, status, text.as_bytes());
+    Ok(())
+}
+
+#[test]
+fn each_call_on_the_files_may_fail(rt: HostRuntime) -> Result<(), Fail> {
+    let table: [(&[u8], usize, u64, u8, &str); 6] = [
+        (EXPLICIT, 65_536, 6, 0, "accepted, 5 steps\n"),
+        (EXPLICIT, 7, 14, 0, "accepted, 5 steps\n"),
+        (EXPLICIT, 1, 65, 0, "accepted, 5 steps\n"),
+        (ONE_TOO_MANY, 65_536, 5, 1, "rejected at step 6\n"),
+        (ONE_TOO_MANY, 7, 13, 1, "rejected at step 6\n"),
+        (ONE_TOO_MANY, 1, 67, 1, "rejected at step 6\n"),
+    ];
+    for (explicit, piece, calls, status, text) in table {
+        expect_calls(&rt, rt.alloc(), explicit, piece, calls, status, text)?;
+    }
+    Ok(())
+}
+
+#[test]
+fn each_call_on_the_sink_may_fail(rt: HostRuntime) -> Result<(), Fail> {
+    let alloc = rt.alloc();
+    let table: [(&[u8], u64, u8, &str); 11] = [
+        (EXPLICIT, 0, 6, ""),
+        (EXPLICIT, 1, 6, "accepted, "),
+        (EXPLICIT, 2, 0, "accepted, 5 steps\n"),
+        (ONE_TOO_MANY, 0, 6, ""),
+        (ONE_TOO_MANY, 1, 6, "rejected a"),
+        (ONE_TOO_MANY, 2, 1, "rejected at step 6\n"),
+        (b"fpc 1 ljx", 0, 6, ""),
+        (b"fpc 1 ljx", 1, 6, "refused ex"),
+        (b"fpc 1 ljx", 2, 6, "refused explicit 2 U"),
+        (b"fpc 1 ljx", 3, 6, "refused explicit 2 Unexpected "),
+        (b"fpc 1 ljx", 4, 3, "refused explicit 2 Unexpected at 8\n"),
+    ];
+    for (explicit, call, status, text) in table {
+        let mut files = files_of(alloc, PROBLEM, Some(explicit), None, 65_536)?;
+        let got = told(alloc, &mut files, Some(call))?;
+        expect(&rt, got, status, text.as_bytes());
+    }
+    Ok(())
+}
+
+#[test]
+fn a_missing_file_is_a_read_fault(rt: HostRuntime) -> Result<(), Fail> {
+    expect_row(&rt, rt.alloc(), PROBLEM, None, 5, "read fault\n")
+}
+
+fn expect_usage(rt: &impl Abort, alloc: Global, words: &Words) -> Result<(), Fail> {
+    let mut files = MemFiles::new(Vec::new(alloc), Vec::new(alloc), 1);
+    let mut out = MemSink::new(alloc, 100, Vec::new(alloc), 100)?;
+    let status = run(alloc, words, &mut files, &mut out);
+    assert_eq!(rt; status.code, 4);
+    assert!(rt; out.bytes() == b"usage\n".as_slice());
     Ok(())
 }
 
 #[test]
 fn other_words_are_usage(rt: HostRuntime) -> Result<(), Fail> {
     let alloc = rt.alloc();
+    expect_usage(&rt, alloc, &Words::new(alloc))?;
     for list in [
         "",
         "check a b",
@@ -204,15 +444,7 @@ fn other_words_are_usage(rt: HostRuntime) -> Result<(), Fail> {
         "demo 501",
         "format explicit a",
     ] {
-        let mut words = Words::new(alloc);
-        for word in list.split(' ') {
-            words.push(String::from_str(alloc, word)?)?;
-        }
-        let mut files = MemFiles::new(Vec::new(alloc), Vec::new(alloc), 1);
-        let mut out = MemSink::new(alloc, 100, Vec::new(alloc), 100)?;
-        let status = run(alloc, &words, &mut files, &mut out);
-        assert_eq!(rt; status.code, 4);
-        assert!(rt; out.bytes() == b"usage\n".as_slice());
+        expect_usage(&rt, alloc, &words_of(alloc, list)?)?;
     }
     Ok(())
 }

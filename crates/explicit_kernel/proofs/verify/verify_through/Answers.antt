@@ -48,13 +48,12 @@ pub loop-names-preserved : goal.loop-names-preserved
 loop-names-preserved g c =
     let r = c.loop-names.invariant.0 in
     let l = length-append r.0 c.split_at.result.0.now in
-    let few = r.1.1.1 in
-    (
+    let few = r.1.1.1 in (
       (
         r.0 ++ c.split_at.result.0.now,
         (
           TakesFront-more (g.S.Source.left c.args.source.now) (g.S.Source.left c.loop-names.source) (g.S.Source.left c.read.new.self) r.0 c.split_at.result.0.now r.1.0
-          (subst (λ bs. TakesFront (g.S.Source.left c.loop-names.source) bs (g.S.Source.left c.read.new.self)) (sym c.split_at.ensures.front) c.in-Ok-read.ensures.taken),
+              (subst (λ bs. TakesFront (g.S.Source.left c.loop-names.source) bs (g.S.Source.left c.read.new.self)) (sym c.split_at.ensures.front) c.in-Ok-read.ensures.taken),
           (c.in-Ok-take_piece.ensures.come c.args.goal.now r.0 r.1.1.0, omega (arith, c.in-Ok-read.ensures.calls, l, few, c.split_at.ensures.front_len, c.in-Ok-read.n-test)),
         ),
       ),

@@ -11,4 +11,4 @@ returns-in-Ok c = λ names goal bytes differ come.
 pub returns-in-Err : goal.returns-in-Err
 returns-in-Err c = λ names goal bytes differ come.
     subst (λ s. IsFinal names goal bytes c.args.self.now (Err s)) (sym c.stop_at.ensures)
-    (final names goal bytes c.args.self.now come differ c.in-Err.fault (λ number agrees. c.in-Err.ensures.whole Lkf names bytes number come.read agrees))
+    (final names goal bytes c.args.self.now come differ c.in-Err.end (λ number agrees. c.in-Err.ensures.whole Lkf names bytes number come.read agrees))
