@@ -1,5 +1,5 @@
 -- How a reader of a whole text comes to its outcome.
-use Rattle.std.proofs.Common.{◌≡◌, ℕ, suc, ◌+◌, ◌<◌, ◌≤◌, Bool, true, false, if◌then◌else◌, List, [], ◌∷◌, length, drop, slice_index_or, Option, Some, None, Result, Ok, Err, refl, sym, ap, ◌∙◌, subst, arith, nat_eq, nat_lt, nat_le, ◌++◌, zero, take}
+use Rattle.std.proofs.Common.{◌≡◌, ℕ, suc, ◌<◌, ◌≤◌, Bool, true, false, if◌then◌else◌, List, [], ◌∷◌, length, drop, Option, Some, None, Result, Ok, Err, refl, sym, ap, ◌∙◌, subst, arith, nat_lt, nat_le, ◌++◌, zero, take}
 use Rattle.std.proofs.lemmas.Bool.Decides.{nat_tests}
 use Rattle.std.proofs.lemmas.List.{drop_all, take-append-drop}
 use Rattle.fpc_base.specs.declared.refusal.Code.{Code}
@@ -14,8 +14,8 @@ use Rattle.fpc_terms.proofs.AddingFacts.{AddsOnly-same, AddsOnly-then, AddsOnly-
 use Rattle.fpc_terms.specs.Term.{Term}
 use Rattle.polarised_formulas.specs.declared.logic.Logic.{Logic}
 use Rattle.polarised_formulas.specs.Formula.{Formula}
-use Rattle.polarised_formulas.specs.PlainReading.{Reading, at_formula, Next, on, whole_term, whole_formula, wrong, next, Use, of_formula, start}
-use Rattle.polarised_formulas.specs.PlainLimits.{limit_of, fault_inside, Outcome, a_term, a_formula, refused, outcome_at_end, unless_refused, outcome, cut, at_most, Comes, ComesRefused}
+use Rattle.polarised_formulas.specs.PlainReading.{Reading, at_formula, Next, on, whole_term, whole_formula, wrong, next, of_formula, start}
+use Rattle.polarised_formulas.specs.PlainLimits.{limit_of, fault_inside, Outcome, refused, outcome_at_end, unless_refused, outcome, cut, at_most, ComesRefused}
 use Rattle.polarised_formulas.specs.PlainStanding.{Stands, IsNext, word_at}
 use Rattle.polarised_formulas.specs.Adding.{EndsWith, IsPartOf}
 use Rattle.polarised_formulas.proofs.Following.{Follows, ends-empty, follows-next}

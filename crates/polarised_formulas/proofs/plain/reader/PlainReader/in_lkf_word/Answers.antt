@@ -1,4 +1,4 @@
-use Rattle.std.proofs.Common.{◌≡◌, List, ℕ, subst, sym, ◌∙◌}
+use Rattle.std.proofs.Common.{◌≡◌, List, ℕ, subst}
 use Rattle.fpc_terms.specs.Adding.{AddsOnly, IsText}
 use Rattle.polarised_formulas.proofs.Following.{popped}
 use Rattle.polarised_formulas.proofs.plain.reader.PlainReader.in_lkf_word.Goals as goal
