@@ -1,5 +1,5 @@
 -- The word in the term or formula of a line is the end of the bytes that were read.
-use Rattle.std.proofs.Common.{◌≡◌, ℕ, Bool, true, false, if◌then◌else◌, ◌||◌, List, [], ◌∷◌, ◌++◌, Option, Some, None, sym, ◌∙◌, subst, nat_eq, append_assoc, append-nil}
+use Rattle.std.proofs.Common.{ℕ, Bool, true, false, if◌then◌else◌, ◌||◌, List, [], ◌∷◌, ◌++◌, Option, Some, None, sym, ◌∙◌, subst, nat_eq, append_assoc, append-nil}
 use Rattle.std.specs.List.{starts_with}
 use Rattle.std.specs.Str.{bytes_eq}
 use Rattle.fpc_base.specs.Tokens.{is_digit}
@@ -15,12 +15,9 @@ use Rattle.explicit_form.specs.declared.word.Written.{Written}
 use Rattle.explicit_form.specs.declared.word.Written.TheVariants as written
 use Rattle.explicit_form.specs.declared.word.Word.{Word}
 use Rattle.explicit_form.specs.declared.word.Word.TheVariants as word
-use Rattle.explicit_form.specs.declared.line.Mode.TheVariants as mode
-use Rattle.explicit_form.specs.declared.step_reader.Phase.TheVariants as phase
 use Rattle.explicit_form.specs.declared.step_reader.StepReader.{StepReader}
 use Rattle.explicit_form.specs.StepText.{word_text, words, header_word, header_text}
 use Rattle.explicit_form.specs.StepReading.{Line, in_word, at_place, in_place, in_plain, Next, on, whole, last, wrong, next, in_line, with_term, with_formula, behind_word, next_word, placed_step, State, heading, reading, ended, mistaken, stuck, start, other, next_heading, settle, go, run}
-use Rattle.explicit_form.specs.LineStanding.{IsPlainWord}
 use Rattle.explicit_form.specs.Feeding.{IsAt, IsLineWord}
 
 -- the word in the term or formula of a line
