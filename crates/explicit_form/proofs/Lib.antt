@@ -17,3 +17,4 @@ pub mod Feeding
 pub mod Taking
 pub mod ReaderFeeding
 pub mod SameLines
+pub mod Following

@@ -10,7 +10,7 @@ use Rattle.explicit_form.specs.declared.step_reader.Phase as phase
 use Rattle.explicit_form.specs.declared.step_reader.StepFault.{StepFault}
 use Rattle.explicit_form.specs.declared.step_reader.StepFault.TheVariants.{Refused, OutOfMemory}
 use Rattle.explicit_form.specs.declared.step_reader.StepReader.{StepReader}
-use Rattle.explicit_form.specs.LineStanding.{Stands}
+use Rattle.explicit_form.specs.LineStanding.{Stands, IsPlainWord}
 
 -- a reader of the logic stands where the reading of a certificate does
 abbrev pub IsAt : Logic → State → StepReader → Type 0
@@ -112,3 +112,11 @@ abbrev pub IsFinished : (List ℕ → ℕ) → Logic → List ℕ → Result (Un
 IsFinished number logic bytes (Ok u) = outcome number logic start 0 bytes ≡ read (steps_of (run number logic start bytes))
 IsFinished number logic bytes (Err (Refused x)) = outcome number logic start 0 bytes ≡ refused x
 IsFinished number logic bytes (Err OutOfMemory) = ⊥
+
+-- the text is the word in progress of the term or formula of the line that the reader is in
+abbrev pub IsLineWord : StepReader → List ℕ → Type 0
+IsLineWord r text = (r.phase ≡ phase.TheVariants.Lines) × IsPlainWord r.line text
+
+-- the reader stands behind these bytes, by each numbering that agrees with the table
+abbrev pub StandsBehind : Logic → List (List ℕ) → List ℕ → StepReader → Type 0
+StandsBehind logic names bytes r = (number : List ℕ → ℕ) → Agrees number names → IsAt logic (run number logic start bytes) r

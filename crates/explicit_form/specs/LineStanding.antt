@@ -68,3 +68,7 @@ stepped (Some s) = whole s
 -- what a byte does where no name ends
 abbrev pub next_unnamed : Logic → Line → ℕ → Next
 next_unnamed logic l b = next (λ w. 0) logic l b
+
+-- the text is the word in progress of the term or formula that a line is in
+abbrev pub IsPlainWord : LineReader → List ℕ → Type 0
+IsPlainWord r text = ((w : Written) × (r.mode ≡ mode.TheVariants.InPlain w)) × (text ≡ r.plain.word.items)

@@ -1,11 +1,12 @@
 //! A line of a certificate that is read byte by byte.
 ghost use Rattle.std.specs.Prelude.{◌≡◌, ℕ, ◌∷◌, ◌++◌, [], List, Some, None, OnOk};
 ghost use Rattle.fpc_terms.specs.Name.{Agrees, Grows};
+ghost use Rattle.fpc_terms.specs.Adding.{AddsOnly, IsText};
 ghost use Rattle.polarised_formulas.specs.declared.logic.Logic.{Logic};
 ghost use Rattle.polarised_formulas.specs.PlainReading.{Reading};
 ghost use Rattle.polarised_formulas.specs.declared.step.Step.{Step};
 ghost use Rattle.explicit_form.specs.StepReading.{Line, in_word, at_place, in_place, in_plain, next, behind_word, placed_step, bare_step, in_line, use_of, with_term, with_formula};
-ghost use Rattle.explicit_form.specs.LineStanding.{Stands, IsNext, next_unnamed, plain_start, stepped};
+ghost use Rattle.explicit_form.specs.LineStanding.{Stands, IsNext, IsPlainWord, next_unnamed, plain_start, stepped};
 
 use crate::word::{Placed, Word, Written, bare_step, placed_step};
 use crate::words::{begins_word, is_digit, with_digit, word_with};
@@ -78,6 +79,7 @@ impl LineReader {
     /// Takes the next byte of the line.
     pub(crate) fn byte(&mut self, names: &mut Names, b: u8) -> Result<Taken, TokenRefusal>
         ensures grows { Grows names.old names.new }
+        ensures only { AddsOnly (IsPlainWord self.old) names.old names.new }
         ensures next { (number : List ℕ → ℕ) (logic : Logic) (l : Line) → Agrees number names.new → Stands logic l self.old
             → IsNext logic l result self.new (next number logic l b) }
     {
@@ -169,6 +171,7 @@ impl LineReader {
         b: u8,
     ) -> Result<Taken, TokenRefusal>
         ensures grows { Grows names.old names.new }
+        ensures only { AddsOnly (IsText self.old.plain.word.items) names.old names.new }
         ensures next { (number : List ℕ → ℕ) (logic : Logic) (q : Reading) → Agrees number names.new → Stands logic (in_plain written q) self.old
             → IsNext logic (in_plain written q) result self.new (next number logic (in_plain written q) b) }
     {

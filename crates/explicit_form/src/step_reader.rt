@@ -1,11 +1,14 @@
 //! An explicit certificate that is read in pieces.
 ghost use Rattle.std.specs.Prelude.{◌≡◌, ℕ, ◌+◌, ◌∷◌, ◌++◌, [], List, Some, None, Ok, Err, IfOk, IsTrue, ◌↔◌, ◌<◌, ◌≤◌, length};
 ghost use Rattle.fpc_terms.specs.Name.{Agrees, Grows};
+ghost use Rattle.fpc_terms.specs.Adding.{AddsOnly};
+ghost use Rattle.polarised_formulas.specs.Adding.{IsPartIn};
+ghost use Rattle.explicit_form.specs.LineStanding.{IsPlainWord};
 ghost use Rattle.polarised_formulas.specs.declared.logic.Logic.{Logic};
 ghost use Rattle.polarised_formulas.specs.declared.step.Step.{Step};
 ghost use Rattle.explicit_form.specs.StepReading.{Line, State, heading, reading, start, next, next_heading, settle, go, run};
 ghost use Rattle.explicit_form.specs.StepLimits.{byte_fault, fault};
-ghost use Rattle.explicit_form.specs.Feeding.{IsAt, IsTaken, IsLine, HasRead, IsFed, IsFinished, is_whole, line_length, step_of, step_with};
+ghost use Rattle.explicit_form.specs.Feeding.{IsAt, IsTaken, IsLine, IsLineWord, StandsBehind, HasRead, IsFed, IsFinished, is_whole, line_in, line_length, step_of, step_with};
 
 #[cfg(test)]
 mod tests;
@@ -69,6 +72,9 @@ impl StepReader {
     /// that it stands at, and again at each later call; no step comes with it.
     pub fn feed(&mut self, names: &mut Names, bytes: &[u8]) -> Result<usize, StepFault>
         ensures grows { Grows names.old names.new }
+        ensures only { (logic : Logic) (known : List (List ℕ)) (before : List ℕ) → HasRead logic known before self.old → Grows known names.old
+            → AddsOnly (IsPartIn before (line_in bytes.now)) names.old names.new }
+        ensures unchanged { (fault : StepFault) → self.old.phase ≡ Phase.Faulty fault → names.new ≡ names.old }
         ensures fed { (logic : Logic) (known : List (List ℕ)) (before : List ℕ) → HasRead logic known before self.old → Grows known names.old
             → IsFed logic names.new before bytes.now result self.new }
         ensures count { IfOk result (λ n. n ≡ line_length bytes.now) }
@@ -125,6 +131,7 @@ impl StepReader {
     /// Takes bytes where nothing was told of the earlier ones.
     fn feed_line(&mut self, names: &mut Names, bytes: &[u8]) -> Result<usize, StepFault>
         ensures grows { Grows names.old names.new }
+        ensures only { (logic : Logic) (before : List ℕ) → StandsBehind logic names.old before self.old → AddsOnly (IsPartIn before (line_in bytes.now)) names.old names.new }
         ensures line { (number : List ℕ → ℕ) (logic : Logic) (st : State) → Agrees number names.new → IsAt logic st self.old
             → IsLine number logic st self.old.at bytes.now result self.new }
         ensures count { IfOk result (λ n. n ≡ line_length bytes.now) }
@@ -134,6 +141,7 @@ impl StepReader {
     {
         self.step = None;
         for (i, b) in bytes.iter().enumerate() {
+            names.distinct();
             match self.byte(names, *b) {
                 Ok(()) => {}
                 Err(fault) => return Err(fault),
@@ -148,6 +156,7 @@ impl StepReader {
     /// Takes the next byte.
     fn byte(&mut self, names: &mut Names, b: u8) -> Result<(), StepFault>
         ensures grows { Grows names.old names.new }
+        ensures only { AddsOnly (IsLineWord self.old) names.old names.new }
         ensures taken { (number : List ℕ → ℕ) (logic : Logic) (st : State) → Agrees number names.new → IsAt logic st self.old
             → IsTaken logic (fault self.old.at st (go number logic st b)) (go number logic st b) (step_with number logic st b) result self.new }
         ensures place { IfOk result (λ u. self.new.at ≡ self.old.at + 1) }
@@ -171,6 +180,7 @@ impl StepReader {
     /// Takes the next byte, whatever its place.
     fn next_byte(&mut self, names: &mut Names, b: u8) -> Result<(), StepFault>
         ensures grows { Grows names.old names.new }
+        ensures only { AddsOnly (IsLineWord self.old) names.old names.new }
         ensures taken { (number : List ℕ → ℕ) (logic : Logic) (st : State) → Agrees number names.new → IsAt logic st self.old → self.old.step ≡ None
             → IsTaken logic (byte_fault self.old.at st (go number logic st b)) (go number logic st b) (step_with number logic st b) result self.new }
         ensures stays { (fault : StepFault) → result ≡ Err fault → self.new.phase ≡ Phase.Faulty fault }
@@ -221,6 +231,7 @@ impl StepReader {
 
     fn line_byte(&mut self, names: &mut Names, b: u8) -> Result<(), StepFault>
         ensures grows { Grows names.old names.new }
+        ensures only { AddsOnly (IsPlainWord self.old.line) names.old names.new }
         ensures taken { (number : List ℕ → ℕ) (logic : Logic) (done : List Step) (l : Line) → Agrees number names.new → IsAt logic (reading done l) self.old → self.old.step ≡ None
             → IsTaken logic (byte_fault self.old.at (reading done l) (settle done (next number logic l b))) (settle done (next number logic l b)) (step_of (next number logic l b)) result self.new }
         ensures stays { (fault : StepFault) → result ≡ Err fault → self.new.phase ≡ Phase.Faulty fault }

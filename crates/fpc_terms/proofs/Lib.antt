@@ -12,3 +12,4 @@ pub mod ReadFacts
 pub mod TokenNames
 pub mod NamesBelow
 pub mod SameTerms
+pub mod AddingFacts

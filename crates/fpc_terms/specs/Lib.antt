@@ -9,3 +9,4 @@ pub mod Partial
 pub mod Holding
 pub mod Printing
 pub mod ReadTerm
+pub mod Adding

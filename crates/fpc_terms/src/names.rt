@@ -1,6 +1,7 @@
 //! The names in use, each with its number.
 ghost use Rattle.std.specs.Prelude.{◌≡◌, ◌<◌, ◌^◌, [], IfOk, IsOk, OnOk, OnErr, Some, length, slice_get, IsTrue, ◌↔◌};
 ghost use Rattle.fpc_terms.specs.Name.{IsName, HasName, AreDifferent, IsInterned, Grows};
+ghost use Rattle.fpc_terms.specs.Adding.{AddsOnly, IsText};
 
 use crate::name::NameId;
 use crate::texts::TextTable;
@@ -73,6 +74,7 @@ impl Names {
         ensures id { IfOk result (λ id. slice_get self.new id ≡ Some text.now) }
         ensures names { OnOk result (IsInterned self.old text.now self.new) }
         ensures grows { Grows self.old self.new }
+        ensures only { AddsOnly (IsText text.now) self.old self.new }
         ensures known { HasName self.old text.now → IsOk result }
         ensures err { OnErr result (self.new ≡ self.old) }
     {

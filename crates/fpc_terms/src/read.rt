@@ -3,6 +3,7 @@ ghost use Rattle.std.specs.Prelude.{◌≡◌, ◌∷◌, [], ℕ, List, IfOk, I
 ghost use Rattle.fpc_base.specs.Lexeme.{lexeme_as, items_left, a_variable};
 ghost use Rattle.fpc_base.specs.Tokens.{source_of};
 ghost use Rattle.fpc_terms.specs.Name.{Grows, AreDifferent, with_text};
+ghost use Rattle.fpc_terms.specs.Adding.{AddsOnly, AddsTaken, IsNameOf, IsNameAmong};
 ghost use Rattle.fpc_terms.specs.Printing.{HasNamesBelow};
 ghost use Rattle.fpc_terms.specs.Term.{Term};
 ghost use Rattle.fpc_terms.specs.Written.{variables_in};
@@ -37,6 +38,8 @@ pub fn read_term(
     ensures source { source_of tokens.new ≡ source_of tokens.old }
     ensures named { IfOk result (HasNamesBelow (length names.new)) }
     ensures names { Grows names.old names.new }
+    ensures only { AddsOnly (IsNameAmong (items_left tokens.old)) names.old names.new }
+    ensures only_taken { OnOk result (AddsTaken (items_left tokens.old) (items_left tokens.new) names.old names.new) }
     ensures variables { Grows vars.old vars.new }
 {
     let (mut reader, left) = read_whole(alloc, names, *tokens, vars, most)?;
@@ -62,6 +65,8 @@ fn read_whole<'a>(
     ensures err { IfErr result (IsTermRefusal most (items_left start.entry) vars.old (length (source_of start.entry))) }
     ensures source { IfOk result (λ p. source_of p.1 ≡ source_of start.entry) }
     ensures names { Grows names.old names.new }
+    ensures only { AddsOnly (IsNameAmong (items_left start.entry)) names.old names.new }
+    ensures only_taken { IfOk result (λ p. AddsTaken (items_left start.entry) (items_left p.1) names.old names.new) }
     ensures variables { Grows vars.old vars.new }
 {
     let mut reader = TermReader::new(alloc);
@@ -126,6 +131,7 @@ fn take_token(
     ensures taken { (s : TermState) → HoldsFor names.old vars.old s reader.old
         → TakesFor result names.new vars.new (limited any_variable most vars.old s (lexeme_as lexeme.entry)) reader.new }
     ensures names { Grows names.old names.new }
+    ensures only { AddsOnly (IsNameOf (lexeme_as lexeme.entry)) names.old names.new }
     ensures variables { Grows vars.old vars.new }
     ensures counted { OnOk result (vars.new ≡ variables_in (lexeme_as lexeme.entry ∷ []) vars.old) }
 {
@@ -151,6 +157,7 @@ fn take_other(
     ensures taken { (most : Option ℕ) (vars : List (List ℕ)) (s : TermState) → AreDifferent vars → is_variable lexeme.entry ≡ false → HoldsFor names.old vars s reader.old
         → TakesFor result names.new vars (limited any_variable most vars s (lexeme_as lexeme.entry)) reader.new }
     ensures names { Grows names.old names.new }
+    ensures only { AddsOnly (IsNameOf (lexeme_as lexeme.entry)) names.old names.new }
 {
     let taken = reader.take(names, lexeme);
     names.distinct();

@@ -3,6 +3,7 @@ ghost use Rattle.std.specs.Prelude.{◌≡◌, ◌∷◌, [], ℕ, List, Bool, t
 ghost use Rattle.fpc_base.specs.Lexeme.{lexeme_as, a_variable, a_sign};
 ghost use Rattle.fpc_base.specs.declared.tokens.lexeme.Sign.TheVariants.{OpenParenthesis, CloseParenthesis, Comma};
 ghost use Rattle.fpc_terms.specs.Name.{Agrees, Grows};
+ghost use Rattle.fpc_terms.specs.Adding.{AddsOnly, IsNameOf};
 ghost use Rattle.fpc_terms.specs.Term.{Term, all_before, count, cells_of};
 ghost use Rattle.fpc_terms.specs.Partial.{leaf_term, arguments_of};
 ghost use Rattle.fpc_terms.specs.Written.{WrittenTerm, WrittenArgs, term_meant, args_meant};
@@ -112,6 +113,7 @@ impl TermReader {
     pub fn take(&mut self, names: &mut Names, lexeme: Lexeme<'_>) -> Result<(), TokenRefusal>
         requires { IsNamed lexeme }
         ensures grows { Grows names.old names.new }
+        ensures only { AddsOnly (IsNameOf (lexeme_as lexeme.entry)) names.old names.new }
         ensures taken { (number : List ℕ → ℕ) (leaf : List ℕ → Term) (known : List ℕ → Bool) (s : TermState)
             → Agrees number names.new → Holds number leaf s self.old → is_variable lexeme.entry ≡ false
             → Takes result number leaf (limited known None [] s (lexeme_as lexeme.entry)) self.new }
@@ -129,6 +131,7 @@ impl TermReader {
     fn take_name(&mut self, names: &mut Names, lexeme: Lexeme<'_>) -> Result<(), TokenRefusal>
         requires { IsNamed lexeme }
         ensures grows { Grows names.old names.new }
+        ensures only { AddsOnly (IsNameOf (lexeme_as lexeme.entry)) names.old names.new }
         ensures taken { (number : List ℕ → ℕ) (leaf : List ℕ → Term) (known : List ℕ → Bool) (s : TermState)
             → Agrees number names.new → Holds number leaf s self.old → self.old.mode ≡ Mode.Wants → is_variable lexeme.entry ≡ false
             → Takes result number leaf (limited known None [] s (lexeme_as lexeme.entry)) self.new }

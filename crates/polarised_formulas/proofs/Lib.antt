@@ -63,3 +63,4 @@ pub mod PlainNamed
 pub mod SameFormulas
 pub mod SameReadings
 pub mod SameSteps
+pub mod Following

@@ -1,19 +1,24 @@
 -- How a reader of a whole text comes to its outcome.
-use Rattle.std.proofs.Common.{◌≡◌, ℕ, suc, ◌+◌, ◌<◌, ◌≤◌, Bool, true, false, if◌then◌else◌, List, [], ◌∷◌, length, drop, slice_index_or, Option, Some, None, Result, Ok, Err, refl, sym, ap, ◌∙◌, subst, arith, nat_eq, nat_lt, nat_le}
+use Rattle.std.proofs.Common.{◌≡◌, ℕ, suc, ◌<◌, ◌≤◌, Bool, true, false, if◌then◌else◌, List, [], ◌∷◌, length, drop, Option, Some, None, Result, Ok, Err, refl, sym, ap, ◌∙◌, subst, arith, nat_lt, nat_le, ◌++◌, zero, take}
 use Rattle.std.proofs.lemmas.Bool.Decides.{nat_tests}
-use Rattle.std.proofs.lemmas.List.{drop_all}
+use Rattle.std.proofs.lemmas.List.{drop_all, take-append-drop}
 use Rattle.fpc_base.specs.declared.refusal.Code.{Code}
 use Rattle.fpc_base.specs.declared.refusal.Code.TheVariants.{Unexpected, TooLarge}
 use Rattle.fpc_base.specs.declared.refusal.Refusal.{Refusal}
 use Rattle.fpc_base.specs.declared.refusal.ParseRefusal.{ParseRefusal}
 use Rattle.fpc_base.specs.declared.refusal.ParseRefusal.TheVariants.{Refused, OutOfMemory}
-use Rattle.fpc_terms.specs.Name.{Agrees, Grows}
+use Rattle.fpc_terms.specs.Name.{Agrees, Grows, AreDifferent, index_in}
+use Rattle.fpc_terms.specs.Adding.{AddsOnly, IsText}
+use Rattle.fpc_terms.proofs.ReadFacts.{Agrees-index_in}
+use Rattle.fpc_terms.proofs.AddingFacts.{AddsOnly-same, AddsOnly-then, AddsOnly-wider}
 use Rattle.fpc_terms.specs.Term.{Term}
 use Rattle.polarised_formulas.specs.declared.logic.Logic.{Logic}
 use Rattle.polarised_formulas.specs.Formula.{Formula}
-use Rattle.polarised_formulas.specs.PlainReading.{Reading, at_formula, Next, on, whole_term, whole_formula, wrong, next, Use, of_formula, start}
-use Rattle.polarised_formulas.specs.PlainLimits.{limit_of, fault_inside, Outcome, a_term, a_formula, refused, outcome_at_end, unless_refused, outcome, cut, at_most, Comes, ComesRefused}
-use Rattle.polarised_formulas.specs.PlainStanding.{Stands, IsNext, limit_at}
+use Rattle.polarised_formulas.specs.PlainReading.{Reading, at_formula, Next, on, whole_term, whole_formula, wrong, next, of_formula, start}
+use Rattle.polarised_formulas.specs.PlainLimits.{limit_of, fault_inside, Outcome, refused, outcome_at_end, unless_refused, outcome, cut, at_most, ComesRefused}
+use Rattle.polarised_formulas.specs.PlainStanding.{Stands, IsNext, word_at}
+use Rattle.polarised_formulas.specs.Adding.{EndsWith, IsPartOf}
+use Rattle.polarised_formulas.proofs.Following.{Follows, ends-empty, follows-next}
 use Rattle.polarised_formulas.specs.PlainTaking.{IsOfFormula, told_at, IsTaken, IsEnded, IsAnswer}
 use Rattle.polarised_formulas.specs.declared.plain.reader.Progress as progress
 use Rattle.polarised_formulas.specs.declared.plain.reader.PlainReader.{PlainReader}
@@ -42,15 +47,35 @@ pub record Place (number : List ℕ → ℕ) (logic : Logic) (bytes : List ℕ) 
   pub stands : Stands logic q r
   pub wanted : IsOfFormula q
   pub same : outcome number logic (start of_formula) 0 bytes ≡ outcome number logic (on q) i (drop i bytes)
+  pub ends : EndsWith (take i bytes) (word_at q)
 
 -- the first i bytes are taken
 pub record ReadsTo (old names : List (List ℕ)) (logic : Logic) (bytes : List ℕ) (r : PlainReader) (i : ℕ) : Type 0 where
   pub grown : Grows old names
+  pub only : AddsOnly (IsPartOf bytes) old names
   pub few : i ≤ 67108864
   pub place : (number : List ℕ → ℕ) → Agrees number names → Place number logic bytes r i
 
 pub reads-none : (names : List (List ℕ)) (logic : Logic) (bytes : List ℕ) (r : PlainReader) → Stands logic (at_formula []) r → ReadsTo names names logic bytes r 0
-reads-none names logic bytes r h = record { grown = λ k text e. e; few = omega arith; place = λ number agrees. record { q = at_formula []; stands = h; wanted = tt; same = refl } }
+reads-none names logic bytes r h = record {
+  grown = λ k text e. e;
+  only = AddsOnly-same (IsPartOf bytes) names;
+  few = omega arith;
+  place = λ number agrees. record { q = at_formula []; stands = h; wanted = tt; same = refl; ends = ends-empty (take 0 bytes) };
+}
+
+-- what was added before a byte, and with it
+pub reads-added : (old names now : List (List ℕ)) (logic : Logic) (bytes : List ℕ) (r : PlainReader) (i : ℕ) → ReadsTo old names logic bytes r i → AreDifferent names
+    → AddsOnly (IsText r.word.items) names now → AddsOnly (IsPartOf bytes) old now
+reads-added old names now logic bytes r i reads differ added =
+    let p = reads.place (index_in names) (Agrees-index_in names differ) in
+    let part : IsPartOf bytes r.word.items = (take i bytes, drop i bytes, (take-append-drop i bytes, subst (EndsWith (take i bytes)) (sym p.stands.word) p.ends)) in
+    AddsOnly-then (IsPartOf bytes) old names now reads.only (AddsOnly-wider (IsText r.word.items) (IsPartOf bytes) names now (λ other e. subst (IsPartOf bytes) (sym e) part) added)
+
+take-next : (i b : ℕ) (bytes rest : List ℕ) → drop i bytes ≡ b ∷ rest → take (suc i) bytes ≡ take i bytes ++ b ∷ []
+take-next zero b bytes rest e = ap (take 1) e
+take-next (suc i) b [] rest e = cc
+take-next (suc i) b (x ∷ xs) rest e = ap (λ (ys : List ℕ). x ∷ ys) (take-next i b xs rest e)
 
 Grows-trans : (a b c : List (List ℕ)) → Grows a b → Grows b c → Grows a c
 Grows-trans a b c x y k text e = y k text (x k text e)
@@ -93,8 +118,9 @@ module _ (old names now : List (List ℕ)) (logic : Logic) (bytes : List ℕ) (r
   from number agrees p = p.same ∙ ap (outcome number logic (on p.q) i) here
 
   pub reads-on : ((number : List ℕ → ℕ) (logic : Logic) (q : Reading) → Agrees number now → Stands logic q r → IsTaken logic q i (Ok tt) s (next number logic q b))
-      → i < 67108864 → drop (suc i) bytes ≡ rest → ReadsTo old now logic bytes s (suc i)
-  reads-on taken small after = record { grown = Grows-trans old names now reads.grown grows; few = omega arith; place = by }
+      → i < 67108864 → drop (suc i) bytes ≡ rest → AreDifferent names → AddsOnly (IsText r.word.items) names now → ReadsTo old now logic bytes s (suc i)
+  reads-on taken small after differ added =
+      record { grown = Grows-trans old names now reads.grown grows; only = reads-added old names now logic bytes r i reads differ added; few = omega arith; place = by }
     where
       by : (number : List ℕ → ℕ) → Agrees number now → Place number logic bytes s (suc i)
       by number agrees =
@@ -106,6 +132,7 @@ module _ (old names now : List (List ℕ)) (logic : Logic) (bytes : List ℕ) (r
             wanted = subst LeadsOn t.1 (leads-next number logic p.q b p.wanted);
             same = from number agrees p ∙ ap (λ n. unless_refused (fault_inside p.q n) i (outcome number logic n (suc i) rest)) t.1
                 ∙ ap (λ c. unless_refused c i (outcome number logic (on t.0) (suc i) rest)) (told-free i (limit_of p.q t.0) t.3) ∙ ap (outcome number logic (on t.0) (suc i)) (sym after);
+            ends = subst (λ xs. EndsWith xs (word_at t.0)) (sym (take-next i b bytes rest here)) (subst (Follows (take i bytes ++ b ∷ [])) t.1 (follows-next number (take i bytes) b logic p.q p.ends));
           }
 
   refusal : (o later : Outcome) (c : Option Code) (code : Code) → o ≡ unless_refused c i later → told_at i c ≡ Some code → (nat_le 67108864 i ≡ true → cut 67108864 o ≡ refused TooLarge i)

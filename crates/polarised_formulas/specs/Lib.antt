@@ -26,3 +26,4 @@ pub mod PlainPrinting
 pub mod PlainStanding
 pub mod PlainTaking
 pub mod OneAnswer
+pub mod Adding

@@ -3,6 +3,7 @@ ghost use Rattle.std.specs.Prelude.{◌≡◌, [], ℕ, List, ◌<◌, ◌≤◌
 ghost use Rattle.fpc_base.specs.Lexeme.{lexeme_as, items_of, a_sign};
 ghost use Rattle.fpc_base.specs.declared.tokens.lexeme.Sign.TheVariants.{Dot};
 ghost use Rattle.fpc_terms.specs.Name.{Grows};
+ghost use Rattle.fpc_terms.specs.Adding.{AddsOnly, IsNameOf, IsNameAmong};
 ghost use Rattle.fpc_terms.specs.Holding.{IsNamed};
 ghost use Rattle.polarised_formulas.specs.Formula.{IsClosed, IsLkf, IsOfLogic};
 ghost use Rattle.polarised_formulas.specs.declared.logic.Logic.TheVariants.{Lkf};
@@ -45,6 +46,7 @@ pub fn read_problem(alloc: Global, names: &mut Names, bytes: &[u8]) -> Result<Pr
     ensures large { 16777216 < length bytes.now → IsTooLarge result }
     ensures refused { length bytes.now ≤ 16777216 → IfErr result (IsProblemRefusal (items_of bytes.now) (length bytes.now)) }
     ensures names { Grows names.old names.new }
+    ensures only { AddsOnly (IsNameAmong (items_of bytes.now)) names.old names.new }
 {
     if bytes.len() > MOST_BYTES {
         return Err(ParseRefusal::Refused(Refusal {
@@ -66,6 +68,7 @@ fn read_tokens(alloc: Global, names: &mut Names, bytes: &[u8]) -> Result<Problem
     ensures ok { IfOk result (λ p. ProblemIsRead (items_of bytes.now) names.new p.logic p.goal) }
     ensures err { IfErr result (IsProblemRefusal (items_of bytes.now) (length bytes.now)) }
     ensures names { Grows names.old names.new }
+    ensures only { AddsOnly (IsNameAmong (items_of bytes.now)) names.old names.new }
 {
     let none = VarTable::new(alloc);
     let mut reader = ProblemReader::new(alloc);
@@ -146,6 +149,7 @@ impl<'a> ProblemReader<'a> {
         requires none { none.now ≡ [] }
         ensures taken { (s : ProblemState) → HoldsProblem names.old s self.old → TakesProblem result names.new (limited_problem s (lexeme_as lexeme.entry)) self.new }
         ensures names { Grows names.old names.new }
+        ensures only { AddsOnly (IsNameOf (lexeme_as lexeme.entry)) names.old names.new }
     {
         let phase = self.phase;
         match phase {

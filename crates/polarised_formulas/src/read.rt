@@ -1,8 +1,9 @@
 //! Formulas read from tokens.
-ghost use Rattle.std.specs.Prelude.{◌≡◌, ℕ, List, IfOk, IfErr, length};
+ghost use Rattle.std.specs.Prelude.{◌≡◌, ℕ, List, IfOk, IfErr, OnOk, length};
 ghost use Rattle.fpc_base.specs.Lexeme.{lexeme_as, items_left};
 ghost use Rattle.fpc_base.specs.Tokens.{source_of};
 ghost use Rattle.fpc_terms.specs.Name.{Grows, AreDifferent};
+ghost use Rattle.fpc_terms.specs.Adding.{AddsOnly, AddsTaken, IsNameOf, IsNameAmong};
 ghost use Rattle.fpc_terms.specs.Holding.{IsNamed};
 ghost use Rattle.polarised_formulas.specs.Machine.{FormulaState, limited};
 ghost use Rattle.fpc_terms.specs.Machine.{is_open};
@@ -36,6 +37,8 @@ pub fn read_formula(
     ensures source { source_of tokens.new ≡ source_of tokens.old }
     ensures named { IfOk result (AllNamesBelow (length names.new)) }
     ensures names { Grows names.old names.new }
+    ensures only { AddsOnly (IsNameAmong (items_left tokens.old)) names.old names.new }
+    ensures only_taken { OnOk result (AddsTaken (items_left tokens.old) (items_left tokens.new) names.old names.new) }
 {
     match read_whole(alloc, names, logic, *tokens, parameters) {
         Ok((reader, left)) => {
@@ -63,6 +66,8 @@ fn read_whole<'a>(
     ensures err { IfErr result (IsFormulaRefusal logic parameters.now (items_left start.entry) (length (source_of start.entry))) }
     ensures source { IfOk result (λ p. source_of p.1 ≡ source_of start.entry) }
     ensures names { Grows names.old names.new }
+    ensures only { AddsOnly (IsNameAmong (items_left start.entry)) names.old names.new }
+    ensures only_taken { IfOk result (λ p. AddsTaken (items_left start.entry) (items_left p.1) names.old names.new) }
 {
     let mut reader = FormulaReader::new(alloc, logic);
     let mut tokens = start;
@@ -124,6 +129,7 @@ pub(crate) fn take_token<'a>(
     ensures taken { (logic : Logic) (s : FormulaState) → HoldsFor names.old logic parameters.now s reader.old
         → TakesFor result names.new logic parameters.now (limited logic parameters.now s (lexeme_as lexeme.entry)) reader.new }
     ensures names { Grows names.old names.new }
+    ensures only { AddsOnly (IsNameOf (lexeme_as lexeme.entry)) names.old names.new }
 {
     let taken = reader.take(names, parameters, lexeme);
     names.distinct();

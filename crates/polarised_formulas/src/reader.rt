@@ -3,6 +3,7 @@ ghost use Rattle.std.specs.Prelude.{◌≡◌, ◌∷◌, [], ℕ, List, Bool, t
 ghost use Rattle.fpc_base.specs.Lexeme.{lexeme_as, a_sign, a_name, a_variable};
 ghost use Rattle.fpc_base.specs.declared.tokens.lexeme.Sign.TheVariants.{CloseParenthesis, OpenParenthesis};
 ghost use Rattle.fpc_terms.specs.Name.{IsName, Agrees, Grows};
+ghost use Rattle.fpc_terms.specs.Adding.{AddsOnly, IsNameOf};
 ghost use Rattle.fpc_terms.specs.Term.{Term, no_args};
 ghost use Rattle.fpc_terms.specs.Written.{WrittenArgs, args_meant};
 ghost use Rattle.fpc_terms.specs.Partial.{arguments_of};
@@ -109,6 +110,7 @@ fn take_argument(
 ) -> Result<(), TokenRefusal>
     requires { IsNamed lexeme }
     ensures grows { Grows names.old names.new }
+    ensures only { AddsOnly (IsNameOf (lexeme_as lexeme.entry)) names.old names.new }
     ensures taken { (number : List ℕ → ℕ) (t : term.TermState) → Agrees number names.new → held.Holds number (variable_meant parameters.now bound.now) t terms.old
         → held.Takes result number (variable_meant parameters.now bound.now) (term.limited (is_known parameters.now bound.now) None [] t (lexeme_as lexeme.entry)) terms.new }
 {
@@ -179,6 +181,7 @@ impl<'a> FormulaReader<'a> {
     ) -> Result<(), TokenRefusal>
         requires { IsNamed lexeme }
         ensures grows { Grows names.old names.new }
+        ensures only { AddsOnly (IsNameOf (lexeme_as lexeme.entry)) names.old names.new }
         ensures taken { (number : List ℕ → ℕ) (logic : Logic) (s : FormulaState) → Agrees number names.new → Holds number logic parameters.now s self.old
             → Takes result number logic parameters.now (limited logic parameters.now s (lexeme_as lexeme.entry)) self.new }
     {
@@ -200,6 +203,7 @@ impl<'a> FormulaReader<'a> {
     fn take_first(&mut self, names: &mut Names, lexeme: Lexeme<'a>) -> Result<(), TokenRefusal>
         requires { IsNamed lexeme }
         ensures grows { Grows names.old names.new }
+        ensures only { AddsOnly (IsNameOf (lexeme_as lexeme.entry)) names.old names.new }
         ensures taken { (number : List ℕ → ℕ) (logic : Logic) (parameters : List (List ℕ)) (s : FormulaState) → Agrees number names.new → Holds number logic parameters s self.old
             → self.old.mode ≡ Mode.Wants → Takes result number logic parameters (limited logic parameters s (lexeme_as lexeme.entry)) self.new }
     {
@@ -282,6 +286,7 @@ impl<'a> FormulaReader<'a> {
     fn take_plain_name(&mut self, names: &mut Names, text: &[u8]) -> Result<(), TokenRefusal>
         requires { IsName text.now }
         ensures grows { Grows names.old names.new }
+        ensures only { AddsOnly (IsNameOf (a_name text.now)) names.old names.new }
         ensures taken { (number : List ℕ → ℕ) (logic : Logic) (parameters : List (List ℕ)) (s : FormulaState) → Agrees number names.new → Holds number logic parameters s self.old
             → self.old.mode ≡ Mode.Wants → Takes result number logic parameters (limited logic parameters s (a_name text.now)) self.new }
     {
@@ -305,6 +310,7 @@ impl<'a> FormulaReader<'a> {
     ) -> Result<(), TokenRefusal>
         requires { IsName text.now }
         ensures grows { Grows names.old names.new }
+        ensures only { AddsOnly (IsNameOf (a_name text.now)) names.old names.new }
         ensures ok { OnOk result ((id : ℕ) × (slice_get names.new id ≡ Some text.now) × (self.new ≡ record self.old { mode = Mode.Named positive id })) }
         ensures err { IfErr result (λ e. e ≡ TokenRefusal.OutOfMemory) }
     {
@@ -322,6 +328,7 @@ impl<'a> FormulaReader<'a> {
     ) -> Result<(), TokenRefusal>
         requires { IsNamed lexeme }
         ensures grows { Grows names.old names.new }
+        ensures only { AddsOnly (IsNameOf (lexeme_as lexeme.entry)) names.old names.new }
         ensures taken { (number : List ℕ → ℕ) (logic : Logic) (parameters : List (List ℕ)) (s : FormulaState) → Agrees number names.new → Holds number logic parameters s self.old
             → self.old.mode ≡ Mode.Marked positive → Takes result number logic parameters (limited logic parameters s (lexeme_as lexeme.entry)) self.new }
     {
@@ -418,6 +425,7 @@ impl<'a> FormulaReader<'a> {
     ) -> Result<(), TokenRefusal>
         requires { IsNamed lexeme }
         ensures grows { Grows names.old names.new }
+        ensures only { AddsOnly (IsNameOf (lexeme_as lexeme.entry)) names.old names.new }
         ensures taken { (number : List ℕ → ℕ) (logic : Logic) (s : FormulaState) → Agrees number names.new → Holds number logic parameters.now s self.old
             → self.old.mode ≡ Mode.InAtom positive name → Takes result number logic parameters.now (limited logic parameters.now s (lexeme_as lexeme.entry)) self.new }
     {

@@ -1,6 +1,8 @@
 //! Whole texts in plain form.
 ghost use Rattle.std.specs.Prelude.{◌≡◌, ℕ, ◌<◌, ◌≤◌, List, length, IfOk, OnOk};
 ghost use Rattle.fpc_terms.specs.Name.{Agrees, Grows};
+ghost use Rattle.fpc_terms.specs.Adding.{AddsOnly, IsText};
+ghost use Rattle.polarised_formulas.specs.Adding.{IsPartOf};
 ghost use Rattle.polarised_formulas.specs.declared.logic.Logic.{Logic};
 ghost use Rattle.polarised_formulas.specs.PlainReading.{Reading, next};
 ghost use Rattle.polarised_formulas.specs.PlainLimits.{outcome_at_end};
@@ -36,6 +38,7 @@ pub fn read_plain_formula(
     bytes: &[u8],
 ) -> Result<Formula, ParseRefusal>
     ensures grows { Grows names.old names.new }
+    ensures only { AddsOnly (IsPartOf bytes.now) names.old names.new }
     ensures outcome { IsAnswer names.new logic bytes.now result }
     ensures explained { IsExplained names.new logic bytes.now result }
 {
@@ -51,21 +54,25 @@ fn read_bytes(
     bytes: &[u8],
 ) -> Result<Formula, ParseRefusal>
     ensures grows { Grows names.old names.new }
+    ensures only { AddsOnly (IsPartOf bytes.now) names.old names.new }
     ensures outcome { IsAnswer names.new logic bytes.now result }
 {
     let mut reader = PlainReader::new(alloc, logic);
     for (at, b) in bytes.iter().enumerate() {
+        names.distinct();
         match take(&mut reader, names, at, *b) {
             Ok(()) => {}
             Err(refusal) => return Err(refusal),
         }
     }
+    names.distinct();
     end(&mut reader, names, bytes.len())
 }
 
 /// Takes a byte inside a text.
 fn take(reader: &mut PlainReader, names: &mut Names, at: usize, b: u8) -> Result<(), ParseRefusal>
     ensures grows { Grows names.old names.new }
+    ensures only { AddsOnly (IsText reader.old.word.items) names.old names.new }
     ensures small { OnOk result (at < 67108864) }
     ensures taken { (number : List ℕ → ℕ) (logic : Logic) (q : Reading) → Agrees number names.new → Stands logic q reader.old
         → IsTaken logic q at result reader.new (next number logic q b) }
@@ -85,6 +92,7 @@ fn take(reader: &mut PlainReader, names: &mut Names, at: usize, b: u8) -> Result
 /// Ends a text.
 fn end(reader: &mut PlainReader, names: &mut Names, at: usize) -> Result<Formula, ParseRefusal>
     ensures grows { Grows names.old names.new }
+    ensures only { AddsOnly (IsText reader.old.word.items) names.old names.new }
     ensures ended { (number : List ℕ → ℕ) (logic : Logic) (q : Reading) → Agrees number names.new → Stands logic q reader.old → IsOfFormula q
         → IsEnded at result (outcome_at_end at (next number logic q 10)) }
 {

@@ -3,6 +3,7 @@ ghost use Rattle.std.specs.Prelude.{◌≡◌, ℕ, suc, ◌∷◌, ◌++◌, []
 ghost use Rattle.fpc_base.specs.declared.refusal.Code.TheVariants.{LongName};
 ghost use Rattle.fpc_base.specs.declared.refusal.TokenRefusal.TheVariants.{Refused};
 ghost use Rattle.fpc_terms.specs.Name.{Agrees, Grows, IsNameBegun, is_small_letter, is_name_byte};
+ghost use Rattle.fpc_terms.specs.Adding.{AddsOnly, IsText};
 ghost use Rattle.fpc_terms.specs.Term.{Term, bound, app, no_args};
 ghost use Rattle.polarised_formulas.specs.declared.logic.Logic.{Logic};
 ghost use Rattle.polarised_formulas.specs.declared.logic.Logic.TheVariants.{Lkf, Ljf};
@@ -148,6 +149,7 @@ fn begins_ljf_with(b: u8) -> Option<Beginning>
 /// The number of a name that was read. Time is logarithmic in the number of names.
 fn name_of(names: &mut Names, word: &[u8]) -> Result<NameId, TokenRefusal>
     ensures grows { Grows names.old names.new }
+    ensures only { AddsOnly (IsText word.now) names.old names.new }
     ensures name { (number : List ℕ → ℕ) → Agrees number names.new → IsNameBegun word.now → IsNamed number (is_keyword word.now) word.now result }
 {
     if !is_name(word) {
@@ -206,6 +208,7 @@ impl PlainReader {
     /// Takes the next byte of the line. What the numbering says of the names of the table decides what a name means.
     pub fn byte(&mut self, names: &mut Names, b: u8) -> Result<Progress, TokenRefusal>
         ensures grows { Grows names.old names.new }
+        ensures only { AddsOnly (IsText self.old.word.items) names.old names.new }
         ensures next { (number : List ℕ → ℕ) (logic : Logic) (q : Reading) → Agrees number names.new → Stands logic q self.old
             → IsNext logic (nesting q) result self.new (next number logic q b) }
     {
@@ -270,6 +273,7 @@ impl PlainReader {
 
     fn in_word(&mut self, names: &mut Names, b: u8) -> Result<Progress, TokenRefusal>
         ensures grows { Grows names.old names.new }
+        ensures only { AddsOnly (IsText self.old.word.items) names.old names.new }
         ensures next { (number : List ℕ → ℕ) (logic : Logic) (hs : List Hole) (w : List ℕ) → Agrees number names.new → Stands logic (in_word hs w) self.old
             → IsNext logic 0 result self.new (next number logic (in_word hs w) b) }
     {
@@ -282,6 +286,7 @@ impl PlainReader {
 
     fn in_lkf_word(&mut self, names: &mut Names, b: u8) -> Result<Progress, TokenRefusal>
         ensures grows { Grows names.old names.new }
+        ensures only { AddsOnly (IsText self.old.word.items) names.old names.new }
         ensures next { (number : List ℕ → ℕ) (hs : List Hole) (w : List ℕ) → Agrees number names.new → Stands Lkf (in_word hs w) self.old
             → IsNext Lkf 0 result self.new (next number Lkf (in_word hs w) b) }
     {
@@ -380,6 +385,7 @@ impl PlainReader {
         b: u8,
     ) -> Result<Progress, TokenRefusal>
         ensures grows { Grows names.old names.new }
+        ensures only { AddsOnly (IsText self.old.word.items) names.old names.new }
         ensures next { (number : List ℕ → ℕ) (logic : Logic) (hs : List Hole) (w : List ℕ) → Agrees number names.new → Stands logic (in_name hs positive w) self.old
             → IsNext logic 0 result self.new (next number logic (in_name hs positive w) b) }
     {
@@ -398,6 +404,7 @@ impl PlainReader {
         b: u8,
     ) -> Result<Progress, TokenRefusal>
         ensures grows { Grows names.old names.new }
+        ensures only { AddsOnly (IsText self.old.word.items) names.old names.new }
         ensures next { (number : List ℕ → ℕ) (logic : Logic) (hs : List Hole) (w : List ℕ) → Agrees number names.new → Stands logic (in_name hs positive w) self.old
             → IsNext logic 0 result self.new (end_name number hs positive w b) }
     {
@@ -566,6 +573,7 @@ impl PlainReader {
 
     fn in_function(&mut self, names: &mut Names, b: u8) -> Result<Progress, TokenRefusal>
         ensures grows { Grows names.old names.new }
+        ensures only { AddsOnly (IsText self.old.word.items) names.old names.new }
         ensures next { (number : List ℕ → ℕ) (logic : Logic) (up : Around) (w : List ℕ) → Agrees number names.new → Stands logic (in_function up w) self.old
             → IsNext logic 0 result self.new (next number logic (in_function up w) b) }
     {
@@ -579,6 +587,7 @@ impl PlainReader {
     /// Takes the byte behind the name of a term.
     fn end_function(&mut self, names: &mut Names, b: u8) -> Result<Progress, TokenRefusal>
         ensures grows { Grows names.old names.new }
+        ensures only { AddsOnly (IsText self.old.word.items) names.old names.new }
         ensures next { (number : List ℕ → ℕ) (logic : Logic) (up : Around) (w : List ℕ) → Agrees number names.new → Stands logic (in_function up w) self.old
             → IsNext logic 0 result self.new (end_function number up w b) }
     {

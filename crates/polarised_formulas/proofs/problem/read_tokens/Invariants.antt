@@ -1,6 +1,7 @@
 use Rattle.std.proofs.Common.{length}
 use Rattle.fpc_base.specs.Lexeme.{items_left, items_of}
 use Rattle.fpc_terms.specs.Name.{Grows}
+use Rattle.fpc_terms.specs.Adding.{AddsTaken}
 use Rattle.polarised_formulas.proofs.ProblemFacts.{IsOn}
 use Rattle.polarised_formulas.proofs.problem.read_tokens.Given as goal
 
@@ -8,6 +9,7 @@ abbrev pub invariant-reading : goal.invariant-reading
 invariant-reading l = record {
   on : IsOn (length l.fn.bytes) (items_of l.fn.bytes) (items_left l.tokens) l.names l.reader;
   names : Grows l.initial.names l.names;
+  adds : AddsTaken (items_of l.fn.bytes) (items_left l.tokens) l.initial.names l.names;
 }
 
 abbrev pub decreases-reading : goal.decreases-reading

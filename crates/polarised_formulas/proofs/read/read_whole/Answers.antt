@@ -2,12 +2,14 @@ use Rattle.std.proofs.Common.{◌≡◌, [], ◌∷◌, map, ap, sym, ◌∙◌,
 use Rattle.fpc_base.specs.Lexeme.{says, lexeme_as, items_left, item_of}
 use Rattle.fpc_terms.proofs.TokenNames.{named-from-form}
 use Rattle.polarised_formulas.proofs.ReadFacts.{IsOn-start, IsOn-taken, IsOn-refused, IsOn-fault, IsOn-unfinished, IsOn-whole, IsOn-ends, IsOn-final, tells}
+use Rattle.fpc_terms.proofs.AddingFacts.{AddsTaken-start, AddsTaken-next, AddsTaken-refused, AddsTaken-all}
 use Rattle.polarised_formulas.proofs.read.read_whole.Goals as goal
 
 pub reading-init : goal.reading-init
 reading-init c = record {
   on = IsOn-start c.args.logic c.args.parameters.now _ _ _ _ c.new-reader.ensures;
   names = λ k text e. e;
+  adds = AddsTaken-start _ _;
   source = refl;
 }
 
@@ -56,6 +58,7 @@ reading-preserved c =
     let i : items_left c.reading.tokens ≡ says (lexeme_as c.lexeme-lexeme.result) c.in-Ok-Some.token.at ∷ items_left c.next.new.self = rw c.lexeme-lexeme.ensures (ap (map item_of) e) in
     record {
       on = IsOn-taken _ _ _ _ _ _ _ on _ _ _ _ _ i (c.in-Ok.ensures.taken c.args.logic);
+      adds = AddsTaken-next _ _ _ _ c.reading.invariant.adds _ _ _ _ i c.take_token.ensures.only;
       names = λ k text h. c.take_token.ensures.names k text (c.reading.invariant.names k text h);
       source = c.next.ensures.source ∙ c.reading.invariant.source;
     }
@@ -69,3 +72,24 @@ returns-in-Err-take_token-clause-err c =
     rw c.placed.ensures
     (IsOn-refused _ _ _ _ _ _ _ on _ _ _ _ _ c.in-Err-take_token.refusal i (c.in-Err-take_token.ensures.taken c.args.logic)
     (sym (c.is_final.ensures _ _ _ _ holds) ∙ c.if-is_final.false) (sym (c.ends_before.ensures _ _ _ _ holds) ∙ c.if-ends_before.false))
+
+pub returns-then-is_final-clause-only : goal.returns-then-is_final-clause-only
+returns-then-is_final-clause-only c = AddsTaken-all _ _ _ _ c.reading.invariant.adds
+
+pub returns-in-Err-clause-only : goal.returns-in-Err-clause-only
+returns-in-Err-clause-only c = AddsTaken-all _ _ _ _ c.reading.invariant.adds
+
+pub returns-then-is_whole-clause-only : goal.returns-then-is_whole-clause-only
+returns-then-is_whole-clause-only c = AddsTaken-all _ _ _ _ c.reading.invariant.adds
+
+pub returns-in-Ok-None-clause-only : goal.returns-in-Ok-None-clause-only
+returns-in-Ok-None-clause-only c = AddsTaken-all _ _ _ _ c.reading.invariant.adds
+
+pub returns-then-ends_before-clause-only : goal.returns-then-ends_before-clause-only
+returns-then-ends_before-clause-only c = AddsTaken-all _ _ _ _ c.reading.invariant.adds
+
+pub returns-in-Err-take_token-clause-only : goal.returns-in-Err-take_token-clause-only
+returns-in-Err-take_token-clause-only c =
+    let e = rw c.in-Ok-Some.field-0-is at c.in-Ok-Some.ensures.next in
+    let i : items_left c.reading.tokens ≡ says (lexeme_as c.lexeme-lexeme.result) c.in-Ok-Some.token.at ∷ items_left c.next.new.self = rw c.lexeme-lexeme.ensures (ap (map item_of) e) in
+    AddsTaken-refused _ _ _ _ c.reading.invariant.adds _ _ _ _ i c.take_token.ensures.only

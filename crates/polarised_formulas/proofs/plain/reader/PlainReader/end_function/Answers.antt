@@ -12,3 +12,9 @@ pub returns-in-Err-clause-next : goal.returns-in-Err-clause-next
 returns-in-Err-clause-next c = λ number logic up w a h.
     let n = rw (c.as_slice.ensures.value, h.word) at c.in-Err.ensures.name number a in
     named-err number (is_keyword w) w c.in-Err.refusal logic _ _ (n h.kept.0)
+
+pub returns-in-Ok-clause-only : goal.returns-in-Ok-clause-only
+returns-in-Ok-clause-only c = rw c.as_slice.ensures.value at c.in-Ok.ensures.only
+
+pub returns-in-Err-clause-only : goal.returns-in-Err-clause-only
+returns-in-Err-clause-only c = rw c.as_slice.ensures.value at c.in-Err.ensures.only

@@ -1,0 +1,4 @@
+use Rattle.polarised_formulas.proofs.reader.FormulaReader.take_first.Goals as goal
+
+pub returns-in-Name-clause-only : goal.returns-in-Name-clause-only
+returns-in-Name-clause-only c = rw c.in-Name.is c.take_plain_name.ensures.only
