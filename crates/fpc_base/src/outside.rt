@@ -26,7 +26,7 @@ impl<T: Drop> From<AllocFailed<T>> for OutOfMemory {
 
 /// Where bytes come from. `faults` counts its failures and never falls; at its last value, the greatest `u64`, it
 /// stands still. `left` has the bytes still to come and `content` the files by name, each where the source tells it;
-/// `opened` has the names of the files that calls of `open` have asked for so far, one after the other, where they are told;
+/// `opened` has the names of the files that were opened so far, one after the other, where they are told;
 /// `calls` bounds the number of calls so far for a source that counts them.
 pub trait Source {
     ghost faults: { Self → ℕ };
@@ -63,7 +63,8 @@ pub trait Files: Source {
         ensures failed { OnErr result (Rose (Self.faults self.old) (Self.faults self.new) ⊎ (Self.content self.old name.now ≡ missing)) }
         ensures opened { OnOk result (IsAtStartOf (Self.content self.old name.now) (Self.left self.new)) }
         ensures content { Self.content self.new ≡ Self.content self.old }
-        ensures named { Opens (Self.opened self.old) name.now (Self.opened self.new) }
+        ensures named { OnOk result (Opens (Self.opened self.old) name.now (Self.opened self.new)) }
+        ensures not_named { OnErr result (Self.opened self.new ≡ Self.opened self.old) }
         ensures calls { Self.calls self.new ≤ Self.calls self.old + 1 };
 }
 
