@@ -13,8 +13,7 @@ use Rattle.explicit_form.specs.StepReading.{Line, State, heading, reading, ended
 use Rattle.explicit_form.specs.StepLaws.{HasLines}
 use Rattle.explicit_form.specs.StepLimits.{read, refused, outcome_at_end, outcome, IsRefused}
 use Rattle.explicit_form.specs.StepTables.{ReadsLines}
-use Rattle.explicit_form.specs.declared.step_reader.StepReader.{StepReader}
-use Rattle.explicit_form.specs.Feeding.{done_of, pushed, HasRead, is_whole}
+use Rattle.explicit_form.specs.Feeding.{done_of, pushed, is_whole}
 use Rattle.explicit_form.specs.StepFeeding.{is_in_lines, NothingGiven, FeedingGives, EndIsWhole, LinesAreTaken, ToldIsRefused, EndIsRefused}
 use Rattle.explicit_form.proofs.Certificates.{turned}
 use Rattle.explicit_form.proofs.ReaderFeeding.{HasRead-grows, at_end, refused-so, steps-in-order}
