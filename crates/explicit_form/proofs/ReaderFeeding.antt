@@ -71,11 +71,11 @@ HasTaken-next : (number : List ℕ → ℕ) (logic : Logic) (st : State) (place 
     → HasTaken number logic st place (front ++ b ∷ []) s
 HasTaken-next number logic st place front b r s h none t =
     let ran : run number logic st (front ++ b ∷ []) ≡ go number logic (run number logic st front) b = run-append number logic st front (b ∷ []) in
-    let told : done_of (run number logic st front) ≡ done_of st = h.told ∙ ap (λ o. pushed o (done_of st)) none in
+    let same : done_of (run number logic st front) ≡ done_of st = h.step_is ∙ ap (λ o. pushed o (done_of st)) none in
     record {
       where_is = rw ran t.1;
       untold = untold-more number logic front st place b h.untold t.0;
-      told = ap done_of ran ∙ done_of-go number logic (run number logic st front) b s t.1 ∙ ap (λ o. pushed o (done_of (run number logic st front))) (sym t.2) ∙ ap (pushed s.step) told;
+      step_is = ap done_of ran ∙ done_of-go number logic (run number logic st front) b s t.1 ∙ ap (λ o. pushed o (done_of (run number logic st front))) (sym t.2) ∙ ap (pushed s.step) same;
     }
 
 -- the loop over bytes: what it has done when it has taken the first i of them
@@ -96,7 +96,7 @@ inside-begin names old bytes = record {
     record {
       where_is = IsAt-same logic st old (record old { step = None }) refl refl h;
       untold = tt;
-      told = refl;
+      step_is = refl;
     },
     refl,
   );
@@ -206,12 +206,12 @@ module _ (logic : Logic) (known names : List (List ℕ)) (front bytes : List ℕ
               let w : n ≤ length bytes = subst (λ m. m ≤ length bytes) (sym count) (line_length-within bytes) in
               place ∙ ap (λ m. m + n) read_before.place ∙ ap (λ m. length front + m) (sym (length-take-le n bytes w)) ∙ sym (length-append front (take n bytes));
         },
-        λ number agrees. ap done_of (ran number) ∙ (line number logic (run number logic start front) agrees (stands number agrees)).told,
+        λ number agrees. ap done_of (ran number) ∙ (line number logic (run number logic start front) agrees (stands number agrees)).step_is,
       )
 
 -- the outcome at the end of bytes that were read
 module _ (logic : Logic) (names : List (List ℕ)) (bytes : List ℕ) (number : List ℕ → ℕ) (r : StepReader) (has_read : HasRead logic names bytes r) (agrees : Agrees number names) where
-  at_end : outcome number logic start 0 bytes ≡ outcome_at_end r.at (run number logic start bytes)
+  pub at_end : outcome number logic start 0 bytes ≡ outcome_at_end r.at (run number logic start bytes)
   at_end =
       ap (outcome number logic start 0) (sym (append-nil bytes)) ∙ untold-outcome number logic bytes [] start 0 (has_read.untold number agrees)
       ∙ ap (λ n. outcome_at_end n (run number logic start bytes)) (zero-add (length bytes) ∙ sym has_read.place)

@@ -67,7 +67,7 @@ pub record IsToldIn (number : List ℕ → ℕ) (logic : Logic) (st : State) (pl
 pub record HasTaken (number : List ℕ → ℕ) (logic : Logic) (st : State) (place : ℕ) (bytes : List ℕ) (r : StepReader) : Type 0 where
   pub where_is : IsAt logic (run number logic st bytes) r
   pub untold : AreUntold number logic st place bytes
-  pub told : done_of (run number logic st bytes) ≡ pushed r.step (done_of st)
+  pub step_is : done_of (run number logic st bytes) ≡ pushed r.step (done_of st)
 
 -- how many of the bytes there are up to and with the first end of a line, or in all
 abbrev pub line_length : List ℕ → ℕ

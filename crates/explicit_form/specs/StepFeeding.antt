@@ -1,64 +1,63 @@
--- What a reader tells of a certificate whose bytes come one by one, while the table of names grows.
-use Rattle.std.specs.Prelude.{◌≡◌, ℕ, ◌≤◌, List, ◌∷◌, ◌++◌, length, Some}
+-- What a reader gives and tells of a certificate whose bytes come in pieces, while the table of names grows.
+use Rattle.std.specs.Prelude.{◌≡◌, ℕ, ◌≤◌, Bool, true, false, List, [], ◌++◌, length, take, Ok, Err}
 use Rattle.fpc_base.specs.declared.refusal.Code.TheVariants.{Unexpected}
 use Rattle.fpc_base.specs.declared.refusal.Refusal.{Refusal}
-use Rattle.fpc_terms.specs.Name.{Agrees, AreDifferent}
+use Rattle.fpc_terms.specs.Name.{Agrees, AreDifferent, Grows}
 use Rattle.fpc_terms.specs.Text.{name_in}
 use Rattle.polarised_formulas.specs.declared.logic.Logic.{Logic}
 use Rattle.polarised_formulas.specs.declared.step.Step.{Step}
 use Rattle.polarised_formulas.specs.Numbering.{number_in, text_in}
-use Rattle.explicit_form.specs.StepReading.{Line, State, heading, reading, ended, start, go, run, steps_of}
+use Rattle.explicit_form.specs.StepReading.{State, heading, reading, ended, mistaken, stuck, start, run, steps_of}
 use Rattle.explicit_form.specs.StepLaws.{HasLines}
-use Rattle.explicit_form.specs.StepLimits.{most_bytes, fault, FitSteps, AreUntold, IsRefused}
+use Rattle.explicit_form.specs.StepLimits.{most_bytes, FitSteps, IsRefused}
 use Rattle.explicit_form.specs.StepTables.{IsCertificateIn}
+use Rattle.explicit_form.specs.declared.step_reader.StepFault.TheVariants.{Refused}
+use Rattle.explicit_form.specs.declared.step_reader.StepReader.{StepReader}
+use Rattle.explicit_form.specs.Feeding.{pushed, line_in, HasRead, IsFed, is_whole}
 
--- where a reader stands: a state without its steps
-pub data Stand : Type 0 where
-  in_heading : (begun : List ℕ) → Stand
-  in_lines : Line → Stand
-  at_end : Stand
+-- The reader has read these bytes, and by each numbering that agrees with the table the steps whose lines have ended in them are these, in order.
+pub record HasGiven (logic : Logic) (names : List (List ℕ)) (bytes : List ℕ) (steps : List Step) (r : StepReader) : Type 0 where
+  pub has_read : HasRead logic names bytes r
+  pub given : (number : List ℕ → ℕ) → Agrees number names → steps_of (run number logic start bytes) ≡ steps
 
--- the reader stands where the state does
-abbrev pub IsAt : Stand → State → Type 0
-IsAt (in_heading w) st = st ≡ heading w
-IsAt (in_lines l) st = (done : List Step) × (st ≡ reading done l)
-IsAt at_end st = (done : List Step) × (st ≡ ended done)
+-- the first line is read, and not the last one
+abbrev pub is_in_lines : State → Bool
+is_in_lines (heading w) = false
+is_in_lines (reading done l) = true
+is_in_lines (ended done) = false
+is_in_lines mistaken = false
+is_in_lines stuck = false
 
--- By the numbering nothing is told of the bytes, they lead there, and the steps are those whose lines have ended.
-pub record HasReadBy (number : List ℕ → ℕ) (logic : Logic) (bytes : List ℕ) (steps : List Step) (stand : Stand) : Type 0 where
-  pub untold : AreUntold number logic start 0 bytes
-  pub stands : IsAt stand (run number logic start bytes)
-  pub taken : steps_of (run number logic start bytes) ≡ steps
+-- by each numbering that agrees with the table the bytes lead to a state that passes the test, or to one that does not
+abbrev pub LeadsTo : (State → Bool) → Bool → Logic → List (List ℕ) → List ℕ → Type 0
+LeadsTo test answer logic names bytes = (number : List ℕ → ℕ) → Agrees number names → test (run number logic start bytes) ≡ answer
 
--- so by each numbering that agrees with the table
-abbrev pub HasRead : List (List ℕ) → Logic → List ℕ → List Step → Stand → Type 0
-HasRead names logic bytes steps stand = (number : List ℕ → ℕ) → Agrees number names → HasReadBy number logic bytes steps stand
+-- a reader that has read nothing has given no step
+abbrev pub NothingGiven : Type 0
+NothingGiven = (logic : Logic) (names : List (List ℕ)) (r : StepReader) → HasRead logic names [] r → HasGiven logic names [] [] r
 
--- By the numbering nothing is told of the bytes in front, and this is told of the byte behind them.
-pub record IsToldBy (number : List ℕ → ℕ) (logic : Logic) (front : List ℕ) (b : ℕ) (r : Refusal) : Type 0 where
-  pub untold : AreUntold number logic start 0 front
-  pub told : fault (length front) (run number logic start front) (go number logic (run number logic start front) b) ≡ Some r
+-- behind a piece a reader has given the steps from before, and then the one that it has, if any
+abbrev pub FeedingGives : Type 0
+FeedingGives = (logic : Logic) (known names : List (List ℕ)) (before bytes : List ℕ) (steps : List Step) (n : ℕ) (old new : StepReader) → HasGiven logic known before steps old → Grows known names
+    → IsFed logic names before bytes (Ok n) new → HasGiven logic names (before ++ take n bytes) (steps ++ pushed new.step []) new
 
--- so by each numbering that agrees with the table
-abbrev pub IsTold : List (List ℕ) → Logic → List ℕ → ℕ → Refusal → Type 0
-IsTold names logic front b r = (number : List ℕ → ℕ) → Agrees number names → IsToldBy number logic front b r
-
--- a reader that has ended has read the text of the steps, within the limits
+-- where the last line is read the bytes are the text of the steps, within the limits
 abbrev pub EndIsWhole : Type 0
-EndIsWhole = (names : List (List ℕ)) → AreDifferent names → (logic : Logic) (bytes : List ℕ) (steps : List Step) → HasRead names logic bytes steps at_end
+EndIsWhole = (names : List (List ℕ)) → AreDifferent names → (logic : Logic) (bytes : List ℕ) (steps : List Step) (r : StepReader) → HasGiven logic names bytes steps r → LeadsTo is_whole true logic names bytes
     → IsCertificateIn names logic steps bytes × FitSteps (name_in names) steps × (length bytes ≤ most_bytes)
 
--- a reader inside the lines has read the lines of the steps, and the bytes of a line that has not ended
+-- inside the lines the bytes are the lines of the steps, and a part of a line that has not ended
 abbrev pub LinesAreTaken : Type 0
-LinesAreTaken = (names : List (List ℕ)) → AreDifferent names → (logic : Logic) (bytes : List ℕ) (steps : List Step) (l : Line) → HasRead names logic bytes steps (in_lines l)
+LinesAreTaken = (names : List (List ℕ)) → AreDifferent names → (logic : Logic) (bytes : List ℕ) (steps : List Step) (r : StepReader) → HasGiven logic names bytes steps r → LeadsTo is_in_lines true logic names bytes
     → HasLines (name_in names) (number_in (length names) names) logic steps bytes
 
--- what is told of a byte is why the bytes are refused, whatever stands behind them
+-- what is told of a piece is why the bytes up to the end of its first line are refused, whatever stands behind them
 abbrev pub ToldIsRefused : Type 0
-ToldIsRefused = (names : List (List ℕ)) → AreDifferent names → (logic : Logic) (front : List ℕ) (b : ℕ) (r : Refusal) → IsTold names logic front b r
-    → (rest : List ℕ) → IsRefused (text_in (length names) names) (number_in (length names) names) logic (front ++ b ∷ rest) r
+ToldIsRefused = (names : List (List ℕ)) → AreDifferent names → (logic : Logic) (known : List (List ℕ)) (before bytes : List ℕ) (x : Refusal) (old new : StepReader) → HasRead logic known before old
+    → Grows known names → IsFed logic names before bytes (Err (Refused x)) new
+    → (rest : List ℕ) → IsRefused (text_in (length names) names) (number_in (length names) names) logic (before ++ (line_in bytes ++ rest)) x
 
--- bytes that end before a reader has ended are refused at their end
+-- bytes that end before the last line is read are refused at their end
 abbrev pub EndIsRefused : Type 0
-EndIsRefused = (names : List (List ℕ)) → AreDifferent names → (logic : Logic) (bytes : List ℕ) (steps : List Step) (stand : Stand) → HasRead names logic bytes steps stand → (stand ≡ at_end → ⊥)
+EndIsRefused = (names : List (List ℕ)) → AreDifferent names → (logic : Logic) (bytes : List ℕ) (r : StepReader) → HasRead logic names bytes r → LeadsTo is_whole false logic names bytes
     → IsRefused (text_in (length names) names) (number_in (length names) names) logic bytes (record { code = Unexpected; at = length bytes })

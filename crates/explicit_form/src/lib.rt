@@ -8,7 +8,7 @@ pub mod step_reader;
 pub mod word;
 mod words;
 
-ghost use Rattle.explicit_form.specs.StepFeeding.{EndIsRefused, EndIsWhole, LinesAreTaken, ToldIsRefused};
+ghost use Rattle.explicit_form.specs.StepFeeding.{EndIsRefused, EndIsWhole, FeedingGives, LinesAreTaken, NothingGiven, ToldIsRefused};
 ghost use Rattle.explicit_form.specs.StepLaws.{CertificateBegins, CertificateIsOne, CertificateIsWhole, LineEnds, LinesAreRead, OtherCalculus, PlainStepIsProper};
 ghost use Rattle.explicit_form.specs.StepLimits.{CertificateOutcome, RefusalIsTold};
 ghost use Rattle.explicit_form.specs.StepTables.{LinesInTable, PlainIsNamed, StepGrows, StepsAreRead, StepsOutcome};
@@ -53,9 +53,12 @@ pub fn laws_of_tables()
     ensures named { PlainIsNamed }
 {}
 
-/// Laws of feeding: what a reader of single bytes has taken are the steps of the text so far, and what it tells is why the bytes are refused.
+/// Laws of feeding: the steps that a reader gives, at most one behind each piece, are those of the lines so far, in order and each once. Where the last line is
+/// read the bytes are their text, within the limits, and what the reader tells is why the bytes are refused.
 #[tactic(auto, using(crate::proofs::Laws::laws))]
 pub fn laws_of_feeding()
+    ensures begins { NothingGiven }
+    ensures gives { FeedingGives }
     ensures whole { EndIsWhole }
     ensures lines { LinesAreTaken }
     ensures told { ToldIsRefused }

@@ -100,7 +100,7 @@ impl StepReader {
         self.step.take()
     }
 
-    /// Whether the last line was read.
+    /// Whether the last line was read, and nothing was told since.
     pub fn ended(&self) -> bool
         ensures phase { IsTrue result ↔ (self.now.phase ≡ Phase.Ended) }
         ensures whole { (logic : Logic) (names : List (List ℕ)) (bytes : List ℕ) (number : List ℕ → ℕ) → HasRead logic names bytes self.now → Agrees number names
@@ -109,8 +109,8 @@ impl StepReader {
         self.phase == Phase::Ended
     }
 
-    /// Tells at the end of the bytes whether they are a whole certificate. It takes no memory; that there was none is told
-    /// only of an earlier call.
+    /// Tells at the end of the bytes whether they are a whole certificate. It takes no memory, and answers `OutOfMemory`
+    /// only where an earlier `feed` did.
     pub fn finish(&self) -> Result<(), StepFault>
         ensures whole { (logic : Logic) (names : List (List ℕ)) (bytes : List ℕ) (number : List ℕ → ℕ) → HasRead logic names bytes self.now → Agrees number names
             → IsFinished number logic bytes result }

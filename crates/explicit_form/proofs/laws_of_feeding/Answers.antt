@@ -1,5 +1,11 @@
-use Rattle.explicit_form.proofs.Feeding.{end_is_whole, lines_are_taken, told_is_refused, end_is_refused}
+use Rattle.explicit_form.proofs.Feeding.{nothing_given, feeding_gives, end_is_whole, lines_are_taken, told_is_refused, end_is_refused}
 use Rattle.explicit_form.proofs.laws_of_feeding.Goals as goal
+
+pub returns-clause-begins : goal.returns-clause-begins
+returns-clause-begins c = nothing_given
+
+pub returns-clause-gives : goal.returns-clause-gives
+returns-clause-gives c = feeding_gives
 
 pub returns-clause-whole : goal.returns-clause-whole
 returns-clause-whole c = end_is_whole
