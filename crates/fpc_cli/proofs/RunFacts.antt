@@ -1,13 +1,13 @@
 -- What an answer's cause is after a file was opened or read.
 use Rattle.std.specs.Prelude.{◌≡◌, ◌≢◌, ℕ, false, List, [], ◌++◌, length, Option, Some, None, Result, Ok, Err, OnOk, IfOk, IfErr, is_err}
-use Rattle.std.proofs.Common.{refl, subst, sym, ap, ◌∙◌, append-nil, inl, inr}
+use Rattle.std.proofs.Common.{refl, subst, ap, ◌∙◌, append-nil, inl, inr}
 use Rattle.fpc_base.specs.declared.refusal.Refusal.{Refusal}
-use Rattle.fpc_base.specs.Outside.{Content, untold, missing, holds, IsAtStartOf, IsAtEnd, TakesFront, Rose}
+use Rattle.fpc_base.specs.Outside.{Content, untold, missing, holds, IsAtStartOf, IsAtEnd, TakesFront}
 use Rattle.fpc_terms.specs.Name.{Agrees, AreDifferent, Grows}
 use Rattle.polarised_formulas.specs.Formula.{Formula, IsClosed, IsLkf}
 use Rattle.polarised_formulas.proofs.Standing.{Agrees-grows}
-use Rattle.explicit_kernel.specs.Judgment.{Judgment, accepted, rejected, refused, judged, at_end, course_of, judgment}
-use Rattle.explicit_kernel.specs.Check.{IsJudged, IsShown, IsRight, HasReason}
+use Rattle.explicit_kernel.specs.Judgment.{Judgment, accepted, rejected, refused, judgment}
+use Rattle.explicit_kernel.specs.Check.{IsJudged, IsRight, HasReason}
 use Rattle.explicit_kernel.specs.declared.verify.Verdict.{Verdict}
 use Rattle.explicit_kernel.specs.declared.verify.Verdict.TheVariants.{Accepted as AcceptedBy, Rejected as RejectedAt}
 use Rattle.explicit_kernel.specs.declared.verify.VerifyRefusal.{VerifyRefusal}
