@@ -1,9 +1,9 @@
 -- The check of a certificate goes on behind a line, or stops in it.
-use Rattle.std.proofs.Common.{◌≡◌, ◌≢◌, ℕ, suc, ◌+◌, ◌<◌, ◌≤◌, ◌⊎◌, inl, inr, Bool, true, false, if◌then◌else◌, List, [], ◌∷◌, ◌++◌, length, take, drop, Option, Some, None, Result, Ok, Err, refl, sym, ap, ◌∙◌, subst, arith, nat_le, add-one, zero-add, append_assoc}
+use Rattle.std.proofs.Common.{◌≡◌, ◌≢◌, ℕ, suc, ◌+◌, ◌<◌, ◌≤◌, ◌⊎◌, inl, inr, Bool, true, false, if◌then◌else◌, List, [], ◌∷◌, ◌++◌, length, take, drop, Option, Some, None, Ok, Err, refl, sym, ap, ◌∙◌, subst, arith, nat_le, add-one, zero-add, append_assoc}
 use Rattle.std.proofs.lemmas.Bool.Decides.{nat_tests}
 use Rattle.std.proofs.lemmas.List.{length-append, length-take-le, take-append-drop}
 use Rattle.fpc_base.specs.declared.refusal.Code.{Code}
-use Rattle.fpc_base.specs.declared.refusal.Code.TheVariants.{Unexpected, TooLarge, WrongCalculus}
+use Rattle.fpc_base.specs.declared.refusal.Code.TheVariants.{TooLarge}
 use Rattle.fpc_base.specs.declared.refusal.Refusal.{Refusal}
 use Rattle.fpc_terms.specs.Name.{Agrees, AreDifferent, Grows}
 use Rattle.polarised_formulas.specs.declared.logic.Logic.TheVariants.{Lkf, Ljf}
@@ -14,17 +14,16 @@ use Rattle.polarised_formulas.proofs.Numberings.{Agrees-number_in}
 use Rattle.polarised_formulas.proofs.Standing.{Agrees-grows}
 use Rattle.lkf_rules.specs.Sequent.{Levelled}
 use Rattle.explicit_form.specs.StepText.{header_word}
-use Rattle.explicit_form.specs.StepReading.{State, heading, reading, ended, mistaken, stuck, start, other, go, run}
+use Rattle.explicit_form.specs.StepReading.{State, heading, reading, ended, mistaken, stuck, start, go, run}
 use Rattle.explicit_form.specs.StepLaws.{IsGoing}
 use Rattle.explicit_form.specs.StepLimits.{most_bytes, state_limit, told_at, byte_fault, fault, AreUntold}
-use Rattle.explicit_form.specs.Feeding.{HasRead, IsFed, IsToldIn, pushed, done_of, is_whole, line_in}
-use Rattle.explicit_form.specs.declared.step_reader.StepReader.{StepReader}
+use Rattle.explicit_form.specs.Feeding.{HasRead, IsFed, done_of, is_whole}
 use Rattle.explicit_form.proofs.Forward.{run-append}
-use Rattle.explicit_form.proofs.Refusals.{word_ends, untold-go, untold-going}
-use Rattle.explicit_kernel.specs.Judgment.{Judgment, rejected, refused, Course, going, judged, played, closing, playing, fitting, course, course_of, begin}
+use Rattle.explicit_form.proofs.Refusals.{word_ends, untold-going}
+use Rattle.explicit_kernel.specs.Judgment.{Judgment, rejected, going, judged, closing, playing, fitting, course, course_of, begin}
 use Rattle.explicit_kernel.specs.Pending.{AreLow}
 use Rattle.explicit_kernel.specs.Progress.{Follows, IsUnfit}
-use Rattle.explicit_kernel.specs.Check.{HasCome, IsStopped, IsTakenOn, IsFollowed, Ends, stop_of}
+use Rattle.explicit_kernel.specs.Check.{HasCome, IsStopped, IsFollowed, Ends, stop_of}
 use Rattle.explicit_kernel.specs.declared.play.Play as play
 use Rattle.explicit_kernel.specs.declared.check.Check as check
 use Rattle.explicit_kernel.specs.declared.check.Stop.{Stop}

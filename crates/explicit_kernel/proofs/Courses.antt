@@ -1,5 +1,5 @@
 -- What the bytes of a line show.
-use Rattle.std.proofs.Common.{◌≡◌, ◌≢◌, ℕ, suc, ◌+◌, ◌≤◌, ◌⊎◌, inl, inr, Bool, true, false, if◌then◌else◌, List, [], ◌∷◌, ◌++◌, length, take, drop, Option, Some, None, refl, sym, ap, ◌∙◌, subst, arith, nat_eq, nat_le, add-zero, append_assoc}
+use Rattle.std.proofs.Common.{◌≡◌, ℕ, suc, ◌+◌, ◌≤◌, ◌⊎◌, inl, inr, Bool, true, false, if◌then◌else◌, List, [], ◌∷◌, ◌++◌, length, take, drop, Option, Some, None, refl, sym, ap, ◌∙◌, subst, arith, nat_eq, add-zero, append_assoc}
 use Rattle.std.proofs.lemmas.List.{length-append}
 use Rattle.fpc_base.specs.declared.refusal.Refusal.{Refusal}
 use Rattle.polarised_formulas.specs.declared.logic.Logic.TheVariants.{Lkf}
@@ -7,10 +7,9 @@ use Rattle.polarised_formulas.specs.declared.step.Step.{Step}
 use Rattle.lkf_rules.specs.Sequent.{Levelled}
 use Rattle.lkf_rules.specs.Premises.{premises_of}
 use Rattle.lkf_rules.specs.Play.{PlaysOne, plays}
-use Rattle.explicit_form.specs.StepReading.{State, heading, reading, ended, mistaken, stuck, start, go, run}
-use Rattle.explicit_form.specs.StepLaws.{IsGoing}
-use Rattle.explicit_form.specs.StepLimits.{most_bytes, fault, AreUntold}
-use Rattle.explicit_form.specs.Feeding.{step_with, done_of, pushed, is_whole, line_length, line_in, IsToldIn}
+use Rattle.explicit_form.specs.StepReading.{State, heading, reading, ended, mistaken, stuck, go, run}
+use Rattle.explicit_form.specs.StepLimits.{fault, AreUntold}
+use Rattle.explicit_form.specs.Feeding.{step_with, done_of, pushed, is_whole, line_length, line_in}
 use Rattle.explicit_form.proofs.Taking.{done_of-going, step_with-none, is_whole-none, is_whole-step}
 use Rattle.explicit_form.proofs.Refusals.{untold-go}
 use Rattle.explicit_kernel.specs.Judgment.{Judgment, rejected, refused, Course, going, judged, in_front, played, closing, playing, fitting, judging, advance, course}

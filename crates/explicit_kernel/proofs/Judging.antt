@@ -1,24 +1,23 @@
 -- What is told where the check of a certificate ends or stops.
-use Rattle.std.proofs.Common.{◌≡◌, ℕ, ◌+◌, ◌-◌, ◌≤◌, ◌⊎◌, inl, inr, Bool, true, false, if◌then◌else◌, List, [], ◌∷◌, ◌++◌, length, take, drop, Option, Some, None, Result, Ok, Err, IfOk, refl, sym, ap, ◌∙◌, subst, arith, zero-add, append_assoc, append-nil}
+use Rattle.std.proofs.Common.{◌≡◌, ℕ, ◌+◌, ◌-◌, ◌≤◌, inl, inr, List, [], ◌++◌, length, take, drop, Option, Some, None, Result, Ok, Err, IfOk, refl, sym, ap, ◌∙◌, subst, arith, zero-add, append_assoc, append-nil}
 use Rattle.std.proofs.lemmas.List.{length-append, length-drop, take_all, take-append-drop}
 use Rattle.std.proofs.Math.Seq.{take-add}
 use Rattle.fpc_base.specs.Outside.{TakesFront, IsAtEnd}
 use Rattle.fpc_base.proofs.Moves.{TakesFront-nothing, TakesFront-more}
 use Rattle.fpc_base.specs.declared.refusal.Code.TheVariants.{Unexpected}
 use Rattle.fpc_base.specs.declared.refusal.Refusal.{Refusal}
-use Rattle.fpc_terms.specs.Name.{Agrees, AreDifferent, Grows}
+use Rattle.fpc_terms.specs.Name.{Agrees, AreDifferent}
 use Rattle.polarised_formulas.specs.declared.logic.Logic.TheVariants.{Lkf}
 use Rattle.polarised_formulas.specs.Formula.{Formula, IsClosed}
 use Rattle.polarised_formulas.specs.Numbering.{number_in, text_in}
 use Rattle.polarised_formulas.proofs.Numberings.{GivesBack-number_in, Agrees-number_in}
-use Rattle.lkf_rules.specs.Sequent.{Levelled}
 use Rattle.explicit_form.specs.StepReading.{State, heading, reading, ended, mistaken, stuck, start, run}
-use Rattle.explicit_form.specs.StepLimits.{Outcome, read, refused as outcome_refused, outcome, outcome_at_end, AreUntold}
-use Rattle.explicit_form.specs.Feeding.{is_whole, IsFinished}
+use Rattle.explicit_form.specs.StepLimits.{read, refused as outcome_refused, outcome, outcome_at_end}
+use Rattle.explicit_form.specs.Feeding.{IsFinished}
 use Rattle.explicit_form.specs.declared.step_reader.StepFault.{StepFault}
 use Rattle.explicit_form.specs.declared.step_reader.StepFault.TheVariants.{Refused as ReaderRefused, OutOfMemory as ReaderNoMemory}
 use Rattle.explicit_form.proofs.Refusals.{untold-outcome}
-use Rattle.explicit_kernel.specs.Judgment.{Judgment, accepted, rejected, refused, Course, going, judged, at_end, course_of, judgment}
+use Rattle.explicit_kernel.specs.Judgment.{accepted, rejected, refused, going, judged, at_end, course_of, judgment}
 use Rattle.explicit_kernel.specs.Check.{HasCome, IsStopped, IsFinal, stop_of, IsAnswerTo}
 use Rattle.explicit_kernel.specs.Verdict.{IsJudged, IsRight}
 use Rattle.explicit_kernel.proofs.JudgmentLaws.{accepted_is_spelled}
@@ -28,7 +27,7 @@ use Rattle.explicit_kernel.specs.declared.check.Stop.TheVariants.{Rejected, Refu
 use Rattle.explicit_kernel.specs.declared.verify.Verdict.{Verdict}
 use Rattle.explicit_kernel.specs.declared.verify.Verdict.TheVariants.{Accepted, Rejected as RejectedAt}
 use Rattle.explicit_kernel.specs.declared.verify.VerifyRefusal.{VerifyRefusal}
-use Rattle.explicit_kernel.specs.declared.verify.VerifyRefusal.TheVariants.{Refused as RefusedAt, ReadFault, OutOfMemory as NoMemory}
+use Rattle.explicit_kernel.specs.declared.verify.VerifyRefusal.TheVariants.{ReadFault, OutOfMemory as NoMemory}
 
 module _ (names : List (List ℕ)) (goal : Formula) (bytes : List ℕ) (c : check.Check) (come : HasCome names goal bytes c) where
   end-of : (number : List ℕ → ℕ) → Agrees number names → outcome number Lkf start 0 bytes ≡ outcome_at_end (length bytes) (run number Lkf start bytes)

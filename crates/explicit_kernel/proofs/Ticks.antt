@@ -1,5 +1,5 @@
 -- How many ticks a verdict tells.
-use Rattle.std.proofs.Common.{◌≡◌, ℕ, ◌+◌, inl, inr, List, ◌++◌, length, Option, Some, Result, Ok, Err, ap, ◌∙◌, append-nil}
+use Rattle.std.proofs.Common.{◌≡◌, ℕ, ◌+◌, inl, inr, List, ◌++◌, length, Option, Some, Ok, Err, ap, ◌∙◌, append-nil}
 use Rattle.fpc_base.specs.declared.refusal.Refusal.{Refusal}
 use Rattle.fpc_terms.specs.Name.{Agrees, AreDifferent}
 use Rattle.polarised_formulas.specs.Formula.{Formula}

@@ -1,5 +1,5 @@
-use Rattle.std.proofs.Common.{◌++◌, [], take, length, refl, sym, subst, ap, arith}
-use Rattle.std.proofs.lemmas.List.{length-append, length-take-le}
+use Rattle.std.proofs.Common.{◌++◌, [], take, refl, sym, subst, arith}
+use Rattle.std.proofs.lemmas.List.{length-append}
 use Rattle.fpc_base.specs.Outside.{TakesFront}
 use Rattle.fpc_base.proofs.Moves.{TakesFront-nothing, TakesFront-more}
 use Rattle.explicit_kernel.proofs.Judging.{judged-memory, judged-fault, judged-accepted, judged-unfinished, judged-stop}

@@ -1,6 +1,5 @@
 use Rattle.std.proofs.Common.{◌++◌, length, take, subst, sym, refl}
 use Rattle.polarised_formulas.specs.declared.logic.Logic.TheVariants.{Lkf}
-use Rattle.explicit_form.specs.declared.step_reader.StepFault.TheVariants.{Refused as ReaderRefused, OutOfMemory as ReaderNoMemory}
 use Rattle.explicit_kernel.specs.Check.{IsStopped}
 use Rattle.explicit_kernel.specs.declared.check.Check as check
 use Rattle.explicit_kernel.proofs.Coming.{come-on, rejected-in, told-in}

@@ -1,4 +1,3 @@
-use Rattle.std.proofs.Common.{arith}
 use Rattle.lkf_rules.proofs.Play.{levels-plays}
 use Rattle.explicit_kernel.proofs.pending.tests.plays_out.Goals as goal
 
