@@ -6,7 +6,7 @@ use Rattle.polarised_formulas.specs.Formula.{Formula}
 use Rattle.polarised_formulas.specs.Numbering.{number_in}
 use Rattle.polarised_formulas.proofs.Numberings.{Agrees-number_in}
 use Rattle.explicit_kernel.specs.Judgment.{refused, judgment}
-use Rattle.explicit_kernel.specs.Check.{IsJudged}
+use Rattle.explicit_kernel.specs.Verdict.{IsJudged}
 use Rattle.explicit_kernel.proofs.JudgmentLaws.{judgment_stays}
 use Rattle.explicit_kernel.specs.declared.verify.Verdict.TheVariants.{Accepted, Rejected}
 use Rattle.explicit_kernel.specs.declared.verify.VerifyRefusal.TheVariants.{Refused}

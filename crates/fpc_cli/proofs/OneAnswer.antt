@@ -28,7 +28,7 @@ use Rattle.fpc_cli.specs.declared.answer.Answer.TheVariants.{Accepted, Rejected,
 use Rattle.fpc_cli.specs.declared.answer.Role.TheVariants.{Problem, Definition, Certificate, Explicit, Atom, Native}
 use Rattle.fpc_cli.specs.Command.{verify, usage}
 use Rattle.fpc_cli.specs.Run.{MayHold, MayBeTooLarge, SpellsGoal, IsGood, first_place, IsNotBuilt, IsProblemRefused, left_of, IsVerified, IsAccepted, IsRejected, IsRefused, IsCaused}
-use Rattle.fpc_cli.specs.OneAnswer.{IsTold, IsFound, HasOneAnswer}
+use Rattle.fpc_cli.specs.OneAnswer.{IsKnown, IsFound, HasOneAnswer}
 
 -- what the law of numbers says of judgments
 abbrev DontMatter : Type 0
@@ -36,22 +36,22 @@ DontMatter = (text text' : ℕ → List ℕ) (number number' : List ℕ → ℕ)
     → (bytes : List ℕ) → judgment number (formula_meant number [] [] w) bytes ≡ judgment number' (formula_meant number' [] [] w) bytes
 
 -- a file that is told holds one list of bytes
-same-bytes : (c : Content) (x y : List ℕ) → IsTold c → MayHold c x → MayHold c y → x ≡ y
+same-bytes : (c : Content) (x y : List ℕ) → IsKnown c → MayHold c x → MayHold c y → x ≡ y
 same-bytes untold x y t h k = absurd t
 same-bytes missing x y t h k = absurd h
 same-bytes (holds b) x y t h k = sym h ∙ k
 
-small-or-large : (c : Content) (x : List ℕ) → IsTold c → MayHold c x → length x ≤ 16777216 → MayBeTooLarge c → ⊥
+small-or-large : (c : Content) (x : List ℕ) → IsKnown c → MayHold c x → length x ≤ 16777216 → MayBeTooLarge c → ⊥
 small-or-large untold x t h small large = t
 small-or-large missing x t h small large = h
 small-or-large (holds b) x t h small large = let e = ap length h in omega (arith, e, small, large)
 
 -- what is read of a file that is told is read of the bytes that it holds
-reads-same : (c : Content) (x y : List ℕ) (w : WrittenProblem) → IsTold c → MayHold c x → MayHold c y → ReadsAll IsProblem ProblemLimits [] (items_of x) w → ReadsAll IsProblem ProblemLimits [] (items_of y) w
+reads-same : (c : Content) (x y : List ℕ) (w : WrittenProblem) → IsKnown c → MayHold c x → MayHold c y → ReadsAll IsProblem ProblemLimits [] (items_of x) w → ReadsAll IsProblem ProblemLimits [] (items_of y) w
 reads-same c x y w t h k reads = subst (λ bs. ReadsAll IsProblem ProblemLimits [] (items_of bs) w) (same-bytes c x y t h k) reads
 
 -- a problem that is read isn't refused
-good-or-refused : (c : Content) (names : List (List ℕ)) (goal : Formula) (r : Refusal) → IsTold c → SpellsGoal names c goal → IsProblemRefused c r → ⊥
+good-or-refused : (c : Content) (names : List (List ℕ)) (goal : Formula) (r : Refusal) → IsKnown c → SpellsGoal names c goal → IsProblemRefused c r → ⊥
 good-or-refused c names goal r t h (inl (e, large)) = small-or-large c h.bytes t h.held h.size large
 good-or-refused c names goal r t h (inr (inl (bytes, (held, small, refuses)))) =
     problem-not_both (length bytes) (items_of bytes) h.read.written r (reads-same c h.bytes bytes h.read.written t h.held held h.read.reads) refuses
@@ -61,17 +61,17 @@ good-or-refused c names goal r t h (inr (inr k)) =
     cc
 
 -- a problem of LJF isn't refused by the grammar
-whole-or-refused : (c : Content) (bytes : List ℕ) (r s : Refusal) → IsTold c → MayHold c bytes → RefusesAll IsProblem ProblemLimits (length bytes) [] (items_of bytes) r → IsNotBuilt c s → ⊥
+whole-or-refused : (c : Content) (bytes : List ℕ) (r s : Refusal) → IsKnown c → MayHold c bytes → RefusesAll IsProblem ProblemLimits (length bytes) [] (items_of bytes) r → IsNotBuilt c s → ⊥
 whole-or-refused c bytes r s t held refuses k =
     problem-not_both (length bytes) (items_of bytes) k.written r (reads-same c k.bytes bytes k.written t k.held held k.reads) refuses
 
 -- the place of the first token is one
-not_built-once : (c : Content) (r s : Refusal) → IsTold c → IsNotBuilt c r → IsNotBuilt c s → r ≡ s
+not_built-once : (c : Content) (r s : Refusal) → IsKnown c → IsNotBuilt c r → IsNotBuilt c s → r ≡ s
 not_built-once c r s t h k = h.told ∙ ap at_first (same-bytes c h.bytes k.bytes t h.held k.held) ∙ sym k.told where
   at_first : List ℕ → Refusal
   at_first bytes = record { code = NotBuilt; at = first_place (items_of bytes) }
 
-refused-once : (c : Content) (r s : Refusal) → IsTold c → IsProblemRefused c r → IsProblemRefused c s → r ≡ s
+refused-once : (c : Content) (r s : Refusal) → IsKnown c → IsProblemRefused c r → IsProblemRefused c s → r ≡ s
 refused-once c r s t (inl (e, large)) (inl (f, large')) = e ∙ sym f
 refused-once c r s t (inl (e, large)) (inr (inl (bytes, (held, small, refuses)))) = absurd (small-or-large c bytes t held small large)
 refused-once c r s t (inl (e, large)) (inr (inr k)) = absurd (small-or-large c k.bytes t k.held k.size large)
@@ -111,7 +111,7 @@ begin-as-names names c goal h =
     let r = IsRead-read (items_of h.bytes) w h.read.reads in
     begins-formula w.formula (EachName-said h.bytes w.logic w.formula (subst (λ cs. Says cs (items_of h.bytes)) r.is_problem.spelled r.said))
 
-module _ (numbers : DontMatter) (p e : List ℕ) (content : List ℕ → Content) (told : IsTold (content p)) (told' : IsTold (content e)) where
+module _ (numbers : DontMatter) (p e : List ℕ) (content : List ℕ → Content) (told : IsKnown (content p)) (told' : IsKnown (content e)) where
   -- two readings of the problem are the same
   same-written : (names names' : List (List ℕ)) (goal goal' : Formula) (g : SpellsGoal names (content p) goal) (h : SpellsGoal names' (content p) goal') → g.read.written ≡ h.read.written
   same-written names names' goal goal' g h =
@@ -119,7 +119,7 @@ module _ (numbers : DontMatter) (p e : List ℕ) (content : List ℕ → Content
       (subst (λ bs. ReadsAll IsProblem ProblemLimits [] (items_of bs) g.read.written) (same-bytes (content p) g.bytes h.bytes told g.held h.held) g.read.reads) h.read.reads
 
   -- two judgments of the same files are the same
-  shared : (left left' : Option (List ℕ)) (P Q : ℕ → Judgment → Type 0) (v : IsVerified (content p) (content e) left P) (w : IsVerified (content p) (content e) left' Q) → (j : Judgment) × (P (length v.taken) j × Q (length w.taken) j)
+  shared : (left left' : Option (List ℕ)) (P Q : Course → ℕ → Judgment → Type 0) (v : IsVerified (content p) (content e) left P) (w : IsVerified (content p) (content e) left' Q) → (j : Judgment) × (P (length v.taken) j × Q (length w.taken) j)
   shared left left' P Q v w = (judgment n v.goal bytes, (v.judged n agrees, subst (Q (length w.taken)) same (w.judged m agrees')))
     where
       n : List ℕ → ℕ
@@ -171,7 +171,7 @@ module _ (numbers : DontMatter) (p e : List ℕ) (content : List ℕ → Content
   view left before now calm OutOfMemory found h = absurd found
 
   -- a problem that was judged isn't refused, and its file is there
-  good : (left : Option (List ℕ)) (P : ℕ → Judgment → Type 0) → IsVerified (content p) (content e) left P → IsGood (content p)
+  good : (left : Option (List ℕ)) (P : Course → ℕ → Judgment → Type 0) → IsVerified (content p) (content e) left P → IsGood (content p)
   good left P v = (v.names, (v.goal, v.spelled))
 
   good-refused : IsGood (content p) → (r : Refusal) → IsProblemRefused (content p) r → ⊥

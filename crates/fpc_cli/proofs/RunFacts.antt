@@ -6,8 +6,8 @@ use Rattle.fpc_base.specs.Outside.{Content, untold, missing, holds, IsAtStartOf,
 use Rattle.fpc_terms.specs.Name.{Agrees, AreDifferent, Grows}
 use Rattle.polarised_formulas.specs.Formula.{Formula, IsClosed, IsLkf}
 use Rattle.polarised_formulas.proofs.Standing.{Agrees-grows}
-use Rattle.explicit_kernel.specs.Judgment.{Judgment, accepted, rejected, refused, judgment}
-use Rattle.explicit_kernel.specs.Check.{IsJudged, IsRight, HasReason}
+use Rattle.explicit_kernel.specs.Judgment.{Judgment, accepted, rejected, refused, Course, course_of, judgment}
+use Rattle.explicit_kernel.specs.Verdict.{IsJudged, IsRight, HasReason}
 use Rattle.explicit_kernel.specs.declared.verify.Verdict.{Verdict}
 use Rattle.explicit_kernel.specs.declared.verify.Verdict.TheVariants.{Accepted as AcceptedBy, Rejected as RejectedAt}
 use Rattle.explicit_kernel.specs.declared.verify.VerifyRefusal.{VerifyRefusal}
@@ -16,7 +16,7 @@ use Rattle.explicit_kernel.proofs.JudgmentLaws.{judgment_stays}
 use Rattle.fpc_cli.specs.declared.answer.Answer.{Answer}
 use Rattle.fpc_cli.specs.declared.answer.Role.TheVariants.{Explicit}
 use Rattle.fpc_cli.specs.Command.{verify}
-use Rattle.fpc_cli.specs.Run.{HasFilesTo, MayHold, SpellsGoal, left_of, IsVerified, IsAccepted, IsRejected, IsRefused, IsCaused, IsAnswerOf}
+use Rattle.fpc_cli.specs.Run.{HasFilesTo, HasOpenedTo, MayHold, SpellsGoal, left_of, IsVerified, IsAccepted, IsRejected, IsRefused, IsUndecided, IsCaused, IsAnswerOf}
 
 pub from-ok : {T E P : Type 0} (r : Result T E) → is_err r ≡ false → OnOk r P → P
 from-ok (Ok t) e p = p
@@ -51,8 +51,8 @@ nothing-left None h = refl
 nothing-left (Some left) h = h
 
 module _ (names : List (List ℕ)) (differ : AreDifferent names) (goal : Formula) (problem explicit : Content) (spelled : SpellsGoal names problem goal) (closed : IsClosed goal) (lkf : IsLkf goal) (old new : Option (List ℕ)) (before now : ℕ) (start : IsAtStartOf explicit old) where
-  verified-so : (answer : Result Verdict VerifyRefusal) (h : IsJudged names goal old new before now answer) (P : ℕ → Judgment → Type 0)
-      → ((number : List ℕ → ℕ) → Agrees number names → P (length h.bytes) (judgment number goal (h.bytes ++ left_of new))) → IsVerified problem explicit new P
+  verified-so : (answer : Result Verdict VerifyRefusal) (h : IsJudged names goal old new before now answer) (P : Course → ℕ → Judgment → Type 0)
+      → ((number : List ℕ → ℕ) → Agrees number names → P (course_of number goal h.bytes) (length h.bytes) (judgment number goal (h.bytes ++ left_of new))) → IsVerified problem explicit new P
   verified-so answer h P so = record {
     names = names;
     different = differ;
@@ -87,21 +87,27 @@ module _ (names : List (List ℕ)) (differ : AreDifferent names) (goal : Formula
         ),
       ))
 
+  pub is-undecided : IsJudged names goal old new before now (Err Fault) → IsVerified problem explicit new IsUndecided
+  is-undecided h = verified-so (Err Fault) h IsUndecided (λ number agrees. let s = h.shown number agrees in (s.0, (s.1.0, (s.1.1.0, s.1.1.1.0))))
+
 -- the cause of an answer is that of the verdict
 pub caused-so : (known names : List (List ℕ)) → Grows known names → AreDifferent names → (goal : Formula) (p e : List ℕ) (content : List ℕ → Content) → SpellsGoal known (content p) goal → IsClosed goal → IsLkf goal
-    → (old new : Option (List ℕ)) → IsAtStartOf (content e) old → (b n before now : ℕ) (verdict : Result Verdict VerifyRefusal) (answer : Answer) → IsAnswerOf verdict answer → IsJudged names goal old new before now verdict
-    → IfOk verdict (IsRight goal) → OnOk verdict (n ≡ b) → IfErr verdict (HasReason b n) → HasFilesTo Explicit (verify p e) content → IsCaused (verify p e) content new b n answer
-caused-so known names grows differ goal p e content spelled closed lkf old new start b n before now (Ok (AcceptedBy k)) answer is h right same reason there =
+    → (o o' : Option (List (List ℕ))) → HasOpenedTo Explicit (verify p e) o o' → (old new : Option (List ℕ)) → IsAtStartOf (content e) old → (b n before now : ℕ) (verdict : Result Verdict VerifyRefusal) (answer : Answer)
+    → IsAnswerOf verdict answer → IsJudged names goal old new before now verdict → IfOk verdict (IsRight goal) → OnOk verdict (n ≡ b) → IfErr verdict (HasReason b n) → HasFilesTo Explicit (verify p e) content
+    → IsCaused (verify p e) content o o' new b n answer
+caused-so known names grows differ goal p e content spelled closed lkf o o' opened old new start b n before now (Ok (AcceptedBy k)) answer is h right same reason there =
     let s = SpellsGoal-grows known names (content p) goal grows spelled in
-    rw is (there, same, is-accepted names differ goal (content p) (content e) s closed lkf old new before now start k h, (names, (goal, (s, closed, lkf, right.0, right.1))))
-caused-so known names grows differ goal p e content spelled closed lkf old new start b n before now (Ok (RejectedAt k)) answer is h right same reason there =
+    rw is (there, same, opened, is-accepted names differ goal (content p) (content e) s closed lkf old new before now start k h, (names, (goal, (s, closed, lkf, right.0, right.1))))
+caused-so known names grows differ goal p e content spelled closed lkf o o' opened old new start b n before now (Ok (RejectedAt k)) answer is h right same reason there =
     let s = SpellsGoal-grows known names (content p) goal grows spelled in
-    rw is (there, same, is-rejected names differ goal (content p) (content e) s closed lkf old new before now start k h)
-caused-so known names grows differ goal p e content spelled closed lkf old new start b n before now (Err (RefusedAt r)) answer is h right same reason there =
+    rw is (there, same, opened, is-rejected names differ goal (content p) (content e) s closed lkf old new before now start k h)
+caused-so known names grows differ goal p e content spelled closed lkf o o' opened old new start b n before now (Err (RefusedAt r)) answer is h right same reason there =
     let s = SpellsGoal-grows known names (content p) goal grows spelled in
-    rw is (there, reason, is-refused names differ goal (content p) (content e) s closed lkf old new before now start r h)
-caused-so known names grows differ goal p e content spelled closed lkf old new start b n before now (Err Fault) answer is h right same reason there = rw is ((λ u. cc), inl reason)
-caused-so known names grows differ goal p e content spelled closed lkf old new start b n before now (Err NoMemory) answer is h right same reason there = rw is tt
+    rw is (there, reason, opened, is-refused names differ goal (content p) (content e) s closed lkf old new before now start r h)
+caused-so known names grows differ goal p e content spelled closed lkf o o' opened old new start b n before now (Err Fault) answer is h right same reason there =
+    let s = SpellsGoal-grows known names (content p) goal grows spelled in
+    rw is ((λ u. cc), inl (reason, inr (inr (opened, is-undecided names differ goal (content p) (content e) s closed lkf old new before now start h))))
+caused-so known names grows differ goal p e content spelled closed lkf o o' opened old new start b n before now (Err NoMemory) answer is h right same reason there = rw is tt
 
 -- what is said of contents and a count is said of those that are equal
 pub moved : (C D : List ℕ → Content) (b d : ℕ) (T : (List ℕ → Content) → ℕ → Type 0) → C ≡ D → b ≡ d → T C b → T D d

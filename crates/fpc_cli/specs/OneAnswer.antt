@@ -7,15 +7,15 @@ use Rattle.fpc_cli.specs.Command.{Asked, verify, usage}
 use Rattle.fpc_cli.specs.Run.{IsCaused}
 
 -- it is told of a file what it holds, or that there is none
-abbrev pub IsTold : Content → Type 0
-IsTold untold = ⊥
-IsTold missing = Unit {0}
-IsTold (holds bytes) = Unit {0}
+abbrev pub IsKnown : Content → Type 0
+IsKnown untold = ⊥
+IsKnown missing = Unit {0}
+IsKnown (holds bytes) = Unit {0}
 
 -- so of the files of the command
-abbrev pub AreTold : Asked → (List ℕ → Content) → Type 0
-AreTold (verify problem explicit) content = IsTold (content problem) × IsTold (content explicit)
-AreTold usage content = Unit {0}
+abbrev pub AreKnown : Asked → (List ℕ → Content) → Type 0
+AreKnown (verify problem explicit) content = IsKnown (content problem) × IsKnown (content explicit)
+AreKnown usage content = Unit {0}
 
 -- memory sufficed for the answer
 abbrev pub IsFound : Answer → Type 0
@@ -24,5 +24,5 @@ IsFound _ = Unit {0}
 
 -- Where the files tell their contents and no count of faults rose, two answers with a cause are the same, but for want of memory.
 abbrev pub HasOneAnswer : Type 0
-HasOneAnswer = (asked : Asked) (content : List ℕ → Content) → AreTold asked content → (left left' : Option (List ℕ)) (before now before' now' : ℕ) → (Rose before now → ⊥) → (Rose before' now' → ⊥)
-    → (a b : Answer) → IsCaused asked content left before now a → IsCaused asked content left' before' now' b → IsFound a → IsFound b → a ≡ b
+HasOneAnswer = (asked : Asked) (content : List ℕ → Content) → AreKnown asked content → (opened now_opened opened' now_opened' : Option (List (List ℕ))) (left left' : Option (List ℕ)) (before now before' now' : ℕ) → (Rose before now → ⊥) → (Rose before' now' → ⊥)
+    → (a b : Answer) → IsCaused asked content opened now_opened left before now a → IsCaused asked content opened' now_opened' left' before' now' b → IsFound a → IsFound b → a ≡ b

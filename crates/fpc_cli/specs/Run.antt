@@ -2,7 +2,7 @@
 use Rattle.std.specs.Prelude.{◌≡◌, ◌≢◌, ◌⊎◌, ℕ, ◌+◌, ◌<◌, ◌≤◌, List, [], ◌∷◌, ◌++◌, length, Option, Some, None, Result, Ok, Err}
 use Rattle.fpc_base.specs.Lexeme.{Item, says, items_of}
 use Rattle.fpc_base.specs.Reading.{ReadsAll, RefusesAll}
-use Rattle.fpc_base.specs.Outside.{Content, untold, missing, holds, Rose, Adds, AddsPrefix}
+use Rattle.fpc_base.specs.Outside.{Content, untold, missing, holds, Rose, Opens, Adds, AddsPrefix}
 use Rattle.fpc_base.specs.declared.refusal.Refusal.{Refusal}
 use Rattle.fpc_base.specs.declared.refusal.Code.TheVariants.{NotBuilt, TooLarge}
 use Rattle.fpc_terms.specs.Name.{Agrees, AreDifferent}
@@ -12,9 +12,11 @@ use Rattle.polarised_formulas.specs.Written.{WrittenProblem, IsProblem}
 use Rattle.polarised_formulas.specs.Place.{ProblemLimits}
 use Rattle.polarised_formulas.specs.ReadProblem.{ProblemIsRead}
 use Rattle.lkf_rules.specs.Derivation.{IsDerivable}
-use Rattle.explicit_kernel.specs.Judgment.{Judgment, accepted, rejected, refused, judgment}
+use Rattle.lkf_rules.specs.Sequent.{Levelled}
+use Rattle.explicit_form.specs.StepReading.{State}
+use Rattle.explicit_kernel.specs.Judgment.{Judgment, accepted, rejected, refused, Course, going, course_of, judgment}
 use Rattle.explicit_kernel.specs.Progress.{HasSpelling}
-use Rattle.explicit_kernel.specs.Check.{most_ahead}
+use Rattle.explicit_kernel.specs.Verdict.{most_ahead}
 use Rattle.explicit_kernel.specs.declared.verify.Verdict.{Verdict}
 use Rattle.explicit_kernel.specs.declared.verify.Verdict.TheVariants.{Accepted as AcceptedBy, Rejected as RejectedAt}
 use Rattle.explicit_kernel.specs.declared.verify.VerifyRefusal.{VerifyRefusal}
@@ -55,10 +57,16 @@ pub record SpellsGoal (names : List (List ℕ)) (content : Content) (goal : Form
 abbrev pub IsGood : Content → Type 0
 IsGood content = (names : List (List ℕ)) × ((goal : Formula) × SpellsGoal names content goal)
 
--- the first of the files that isn't good is told as missing
-abbrev pub MissesOne : Asked → (List ℕ → Content) → Type 0
-MissesOne (verify problem explicit) content = (content problem ≡ missing) ⊎ (IsGood (content problem) × (content explicit ≡ missing))
-MissesOne usage content = ⊥
+-- The files of the command up to the one of a role were opened, each once and in order, and no other. The lists are of the files that were opened before and are now.
+abbrev pub HasOpenedTo : Role → Asked → Option (List (List ℕ)) → Option (List (List ℕ)) → Type 0
+HasOpenedTo Problem (verify problem explicit) old new = Opens old problem new
+HasOpenedTo Explicit (verify problem explicit) old new = (mid : Option (List (List ℕ))) × (Opens old problem mid × Opens mid explicit new)
+HasOpenedTo _ _ old new = ⊥
+
+-- the first of the files that isn't good is told as missing, and was not opened
+abbrev pub MissesOne : Asked → (List ℕ → Content) → Option (List (List ℕ)) → Option (List (List ℕ)) → Type 0
+MissesOne (verify problem explicit) content old new = ((content problem ≡ missing) × (new ≡ old)) ⊎ (IsGood (content problem) × (content explicit ≡ missing) × Opens old problem new)
+MissesOne usage content old new = ⊥
 
 -- the bytes that are left of a file, where it tells them
 abbrev pub left_of : Option (List ℕ) → List ℕ
@@ -66,8 +74,8 @@ left_of None = []
 left_of (Some left) = left
 
 -- Some bytes were taken of the certificate's file. By each numbering that agrees with a table of different names, the problem's file spells a goal, which is closed and of LKF, and
--- what was taken and the judgment of the certificate for the goal are so.
-pub record IsVerified (problem explicit : Content) (left : Option (List ℕ)) (P : ℕ → Judgment → Type 0) : Type 0 where
+-- what was taken has shown, the number of its bytes and the judgment of the certificate for the goal are so.
+pub record IsVerified (problem explicit : Content) (left : Option (List ℕ)) (P : Course → ℕ → Judgment → Type 0) : Type 0 where
   pub names : List (List ℕ)
   pub different : AreDifferent names
   pub goal : Formula
@@ -76,22 +84,26 @@ pub record IsVerified (problem explicit : Content) (left : Option (List ℕ)) (P
   pub lkf : IsLkf goal
   pub taken : List ℕ
   pub held : MayHold explicit (taken ++ left_of left)
-  pub judged : (number : List ℕ → ℕ) → Agrees number names → P (length taken) (judgment number goal (taken ++ left_of left))
+  pub judged : (number : List ℕ → ℕ) → Agrees number names → P (course_of number goal taken) (length taken) (judgment number goal (taken ++ left_of left))
 
 -- the certificate is accepted
-abbrev pub IsAccepted : ℕ → ℕ → Judgment → Type 0
-IsAccepted n taken j = j ≡ accepted n
+abbrev pub IsAccepted : ℕ → Course → ℕ → Judgment → Type 0
+IsAccepted n c taken j = j ≡ accepted n
 
 -- the certificate is rejected at a step, and not too much was taken behind the place where it lies
-abbrev pub IsRejected : ℕ → ℕ → Judgment → Type 0
-IsRejected k taken j = (place : ℕ) × ((j ≡ rejected k place) × (taken ≤ place + 1 + most_ahead))
+abbrev pub IsRejected : ℕ → Course → ℕ → Judgment → Type 0
+IsRejected k c taken j = (place : ℕ) × ((j ≡ rejected k place) × (taken ≤ place + 1 + most_ahead))
 
 -- the certificate is refused, and not too much was taken behind the place where it lies
-abbrev pub IsRefused : Refusal → ℕ → Judgment → Type 0
-IsRefused r taken j = (fitted : ℕ) × ((j ≡ refused r fitted) × (taken ≤ r.at + 1 + most_ahead))
+abbrev pub IsRefused : Refusal → Course → ℕ → Judgment → Type 0
+IsRefused r c taken j = (fitted : ℕ) × ((j ≡ refused r fitted) × (taken ≤ r.at + 1 + most_ahead))
+
+-- what was taken shows neither a refusal nor a rejection
+abbrev pub IsUndecided : Course → ℕ → Judgment → Type 0
+IsUndecided c taken j = (st : State) × ((q : List Levelled) × ((n : ℕ) × (c ≡ going st q n)))
 
 -- the files of the command have a judgment that is so
-abbrev pub HasJudgment : Asked → (List ℕ → Content) → Option (List ℕ) → (ℕ → Judgment → Type 0) → Type 0
+abbrev pub HasJudgment : Asked → (List ℕ → Content) → Option (List ℕ) → (Course → ℕ → Judgment → Type 0) → Type 0
 HasJudgment (verify problem explicit) content left P = IsVerified (content problem) (content explicit) left P
 HasJudgment usage content left P = ⊥
 
@@ -128,14 +140,19 @@ abbrev pub IsProved : Asked → (List ℕ → Content) → ℕ → Type 0
 IsProved (verify problem explicit) content n = (names : List (List ℕ)) × ((goal : Formula) × (SpellsGoal names (content problem) goal × IsClosed goal × IsLkf goal × HasSpelling goal n × IsDerivable goal))
 IsProved usage content n = ⊥
 
--- An answer's cause, in what was asked, what is told of the files, what is left of the one that is open, and the counts of their faults before and now.
-abbrev pub IsCaused : Asked → (List ℕ → Content) → Option (List ℕ) → ℕ → ℕ → Answer → Type 0
-IsCaused asked content left before now (Accepted n) = HasFilesTo Explicit asked content × (now ≡ before) × HasJudgment asked content left (IsAccepted n) × IsProved asked content n
-IsCaused asked content left before now (Rejected k) = HasFilesTo Explicit asked content × (now ≡ before) × HasJudgment asked content left (IsRejected k)
-IsCaused asked content left before now (Refused role refusal) = HasFilesTo role asked content × (now ≡ before) × IsRefusalOf role asked content left refusal
-IsCaused asked content left before now Usage = (asked ≡ usage) × (now ≡ before)
-IsCaused asked content left before now ReadFault = (asked ≢ usage) × (Rose before now ⊎ MissesOne asked content)
-IsCaused asked content left before now OutOfMemory = Unit {0}
+-- The certificate's file was not opened, or what was taken of it shows nothing.
+abbrev pub ShowsNothing : Asked → (List ℕ → Content) → Option (List (List ℕ)) → Option (List (List ℕ)) → Option (List ℕ) → Type 0
+ShowsNothing asked content old new left = (new ≡ old) ⊎ (HasOpenedTo Problem asked old new ⊎ (HasOpenedTo Explicit asked old new × HasJudgment asked content left IsUndecided))
+
+-- An answer's cause, in what was asked, what is told of the files, which of them were opened before and are now, what is left of the one that is open, and the counts of their faults before and now.
+abbrev pub IsCaused : Asked → (List ℕ → Content) → Option (List (List ℕ)) → Option (List (List ℕ)) → Option (List ℕ) → ℕ → ℕ → Answer → Type 0
+IsCaused asked content old new left before now (Accepted n) =
+    HasFilesTo Explicit asked content × (now ≡ before) × HasOpenedTo Explicit asked old new × HasJudgment asked content left (IsAccepted n) × IsProved asked content n
+IsCaused asked content old new left before now (Rejected k) = HasFilesTo Explicit asked content × (now ≡ before) × HasOpenedTo Explicit asked old new × HasJudgment asked content left (IsRejected k)
+IsCaused asked content old new left before now (Refused role refusal) = HasFilesTo role asked content × (now ≡ before) × HasOpenedTo role asked old new × IsRefusalOf role asked content left refusal
+IsCaused asked content old new left before now Usage = (asked ≡ usage) × (now ≡ before) × (new ≡ old)
+IsCaused asked content old new left before now ReadFault = (asked ≢ usage) × ((Rose before now × ShowsNothing asked content old new left) ⊎ MissesOne asked content old new)
+IsCaused asked content old new left before now OutOfMemory = Unit {0}
 
 -- the sink took the whole text of the answer, or its count rose and it took a part from the front
 abbrev pub IsWritten : Answer → ℕ → ℕ → ℕ → Option (List ℕ) → Option (List ℕ) → Type 0
@@ -144,9 +161,9 @@ IsWritten answer code before now old new =
     ⊎ ((code ≡ 6) × Rose before now × AddsPrefix old (answer_text answer) new)
 
 -- an answer with its cause was written, and the status tells it
-pub record IsAnswered (asked : Asked) (content : List ℕ → Content) (left : Option (List ℕ)) (before now : ℕ) (code : ℕ) (faults faults' : ℕ) (old new : Option (List ℕ)) : Type 0 where
+pub record IsAnswered (asked : Asked) (content : List ℕ → Content) (opened opened' : Option (List (List ℕ))) (left : Option (List ℕ)) (before now : ℕ) (code : ℕ) (faults faults' : ℕ) (old new : Option (List ℕ)) : Type 0 where
   pub answer : Answer
-  pub caused : IsCaused asked content left before now answer
+  pub caused : IsCaused asked content opened opened' left before now answer
   pub written : IsWritten answer code faults faults' old new
 
 -- a text was written under a status, or the sink's count rose

@@ -1,11 +1,11 @@
 //! All that the program does, over any files and any sink.
-ghost use Rattle.std.specs.Prelude.{◌≡◌, ◌≢◌, ◌≤◌, ◌<◌, ◌⊎◌, List, ℕ, OnOk, IfOk, IfErr};
+ghost use Rattle.std.specs.Prelude.{◌≡◌, ◌≢◌, ◌≤◌, ◌<◌, ◌⊎◌, List, ℕ, Option, OnOk, IfOk, IfErr};
 ghost use Rattle.fpc_base.specs.Lexeme.{items_of};
-ghost use Rattle.fpc_base.specs.Outside.{missing, IsAtStartOf};
+ghost use Rattle.fpc_base.specs.Outside.{missing, IsAtStartOf, Opens};
 ghost use Rattle.polarised_formulas.specs.Formula.{IsClosed, IsLkf};
 ghost use Rattle.polarised_formulas.specs.declared.logic.Logic.TheVariants.{Lkf};
 ghost use Rattle.fpc_cli.specs.Command.{asked_by, verify as asked_to_verify};
-ghost use Rattle.fpc_cli.specs.Run.{HasFilesTo, SpellsGoal, first_place, IsCaused, IsAnswered, IsPut, IsAnswerOf};
+ghost use Rattle.fpc_cli.specs.Run.{HasFilesTo, HasOpenedTo, SpellsGoal, first_place, IsCaused, IsAnswered, IsPut, IsAnswerOf};
 
 use crate::answer::{Answer, Role, WANT_OF_MEMORY, status, text_of};
 use crate::command::{Command, command_of};
@@ -63,8 +63,9 @@ fn problem_in<F: Files>(
     ensures lkf { IfOk result (λ p. IsLkf p.goal) }
     ensures spelled { IfOk result (λ p. SpellsGoal names.new (F.content files.old name.now) p.goal) }
     ensures there { OnOk result (F.content files.old name.now ≢ missing) }
+    ensures opened { OnOk result (Opens (F.opened files.old) name.now (F.opened files.new)) }
     ensures count { OnOk result (F.faults files.new ≡ F.faults files.old) }
-    ensures caused { IfErr result (λ a. (explicit : List ℕ) → IsCaused (asked_to_verify name.now explicit) (F.content files.old) (F.left files.new) (F.faults files.old) (F.faults files.new) a) }
+    ensures caused { IfErr result (λ a. (explicit : List ℕ) → IsCaused (asked_to_verify name.now explicit) (F.content files.old) (F.opened files.old) (F.opened files.new) (F.left files.new) (F.faults files.old) (F.faults files.new) a) }
     ensures never_falls { F.faults files.old ≤ F.faults files.new }
     ensures content { F.content files.new ≡ F.content files.old }
 {
@@ -132,8 +133,8 @@ fn judged<F: Files, L: Ledger>(
     requires name { blank.name ≡ L.name }
     requires parts { blank.parts ≡ L.parts }
     requires one { 0 < L.parts }
-    ensures caused { (p e : List ℕ) → SpellsGoal names.old (F.content files.old p) problem.now.goal → HasFilesTo Role.Explicit (asked_to_verify p e) (F.content files.old) → IsAtStartOf (F.content files.old e) (F.left files.old)
-        → IsCaused (asked_to_verify p e) (F.content files.old) (F.left files.new) (F.faults files.old) (F.faults files.new) result }
+    ensures caused { (p e : List ℕ) (o : Option (List (List ℕ))) → SpellsGoal names.old (F.content files.old p) problem.now.goal → HasFilesTo Role.Explicit (asked_to_verify p e) (F.content files.old) → IsAtStartOf (F.content files.old e) (F.left files.old)
+        → HasOpenedTo Role.Explicit (asked_to_verify p e) o (F.opened files.old) → IsCaused (asked_to_verify p e) (F.content files.old) o (F.opened files.new) (F.left files.new) (F.faults files.old) (F.faults files.new) result }
     ensures never_falls { F.faults files.old ≤ F.faults files.new }
     ensures content { F.content files.new ≡ F.content files.old }
 {
@@ -154,8 +155,8 @@ fn checked<F: Files>(
     requires logic { problem.now.logic ≡ Lkf }
     requires closed { IsClosed problem.now.goal }
     requires lkf { IsLkf problem.now.goal }
-    ensures caused { (p : List ℕ) → SpellsGoal names.old (F.content files.old p) problem.now.goal → F.content files.old p ≢ missing
-        → IsCaused (asked_to_verify p name.now) (F.content files.old) (F.left files.new) (F.faults files.old) (F.faults files.new) result }
+    ensures caused { (p : List ℕ) (o : Option (List (List ℕ))) → SpellsGoal names.old (F.content files.old p) problem.now.goal → F.content files.old p ≢ missing → Opens o p (F.opened files.old)
+        → IsCaused (asked_to_verify p name.now) (F.content files.old) o (F.opened files.new) (F.left files.new) (F.faults files.old) (F.faults files.new) result }
     ensures never_falls { F.faults files.old ≤ F.faults files.new }
     ensures content { F.content files.new ≡ F.content files.old }
 {
@@ -167,7 +168,7 @@ fn checked<F: Files>(
 
 /// The answer to `verify`.
 fn verified<F: Files>(alloc: Global, problem: &str, explicit: &str, files: &mut F) -> Answer
-    ensures caused { IsCaused (asked_to_verify problem.now explicit.now) (F.content files.old) (F.left files.new) (F.faults files.old) (F.faults files.new) result }
+    ensures caused { IsCaused (asked_to_verify problem.now explicit.now) (F.content files.old) (F.opened files.old) (F.opened files.new) (F.left files.new) (F.faults files.old) (F.faults files.new) result }
     ensures never_falls { F.faults files.old ≤ F.faults files.new }
     ensures content { F.content files.new ≡ F.content files.old }
 {
@@ -180,7 +181,7 @@ fn verified<F: Files>(alloc: Global, problem: &str, explicit: &str, files: &mut 
 
 /// The answer to the words.
 fn answer<F: Files>(alloc: Global, words: &Words, files: &mut F) -> Answer
-    ensures caused { IsCaused (asked_by words.now) (F.content files.old) (F.left files.new) (F.faults files.old) (F.faults files.new) result }
+    ensures caused { IsCaused (asked_by words.now) (F.content files.old) (F.opened files.old) (F.opened files.new) (F.left files.new) (F.faults files.old) (F.faults files.new) result }
     ensures never_falls { F.faults files.old ≤ F.faults files.new }
     ensures content { F.content files.new ≡ F.content files.old }
 {
@@ -203,7 +204,7 @@ fn write<S: Sink>(status: Status, text: &[u8], out: &mut S) -> Status
 /// Runs the program on its words: makes the whole output first, then writes it. The status is 0 for accepted, 1 for rejected,
 /// 3 for a refused file, 4 for words that are no command, 5 for a read fault, 6 for a write fault, 8 for want of memory.
 pub fn run<F: Files, S: Sink>(alloc: Global, words: &Words, files: &mut F, out: &mut S) -> Status
-    ensures answered { IsAnswered (asked_by words.now) (F.content files.old) (F.left files.new) (F.faults files.old) (F.faults files.new) result.code
+    ensures answered { IsAnswered (asked_by words.now) (F.content files.old) (F.opened files.old) (F.opened files.new) (F.left files.new) (F.faults files.old) (F.faults files.new) result.code
         (S.faults out.old) (S.faults out.new) (S.taken out.old) (S.taken out.new) }
     ensures never_falls { F.faults files.old ≤ F.faults files.new }
     ensures content { F.content files.new ≡ F.content files.old }

@@ -1,5 +1,5 @@
 use Rattle.std.proofs.Common.{subst}
-use Rattle.explicit_kernel.specs.Check.{IsJudged}
+use Rattle.explicit_kernel.specs.Verdict.{IsJudged}
 use Rattle.explicit_kernel.proofs.Ticks.{ticks-accepted, ticks-rejected, ticks-refused}
 use Rattle.explicit_kernel.proofs.verify.tests.counted.Goals as goal
 
