@@ -112,7 +112,7 @@ abbrev pub first_place : List Item → ℕ
 first_place (says c at ∷ items) = at
 first_place _ = 0
 
--- the file's bytes are a problem of LJF, whose first token is told as not built
+-- the file's bytes are a problem of LJF, and the refusal is NotBuilt at the first token
 pub record IsNotBuilt (content : Content) (refusal : Refusal) : Type 0 where
   pub bytes : List ℕ
   pub held : MayHold content bytes
