@@ -22,13 +22,14 @@ use Rattle.polarised_formulas.specs.Written.{WrittenFormula, true_unit, false_un
 use Rattle.polarised_formulas.specs.Formula.{Formula}
 use Rattle.polarised_formulas.proofs.ProblemReading.{problem-read_once, problem-refused_once, problem-not_both}
 use Rattle.fpc_base.specs.Reading.{ReadsAll, RefusesAll}
-use Rattle.explicit_kernel.specs.Judgment.{Judgment, judgment}
+use Rattle.explicit_kernel.specs.Judgment.{Judgment, Course, course_of, judgment}
 use Rattle.fpc_cli.specs.declared.answer.Answer.{Answer}
 use Rattle.fpc_cli.specs.declared.answer.Answer.TheVariants.{Accepted, Rejected, Refused, Usage, ReadFault, OutOfMemory}
 use Rattle.fpc_cli.specs.declared.answer.Role.TheVariants.{Problem, Definition, Certificate, Explicit, Atom, Native}
 use Rattle.fpc_cli.specs.Command.{verify, usage}
 use Rattle.fpc_cli.specs.Run.{MayHold, MayBeTooLarge, SpellsGoal, IsGood, first_place, IsNotBuilt, IsProblemRefused, left_of, IsVerified, IsAccepted, IsRejected, IsRefused, IsCaused}
 use Rattle.fpc_cli.specs.OneAnswer.{IsKnown, IsFound, HasOneAnswer}
+use Rattle.fpc_cli.specs.Due.{IsGiven, IsProblemOf, answer_due, JudgmentIsGiven, RefusalIsGiven, MissingIsGiven}
 
 -- what the law of numbers says of judgments
 abbrev DontMatter : Type 0
@@ -119,8 +120,8 @@ module _ (numbers : DontMatter) (p e : List ℕ) (content : List ℕ → Content
       (subst (λ bs. ReadsAll IsProblem ProblemLimits [] (items_of bs) g.read.written) (same-bytes (content p) g.bytes h.bytes told g.held h.held) g.read.reads) h.read.reads
 
   -- two judgments of the same files are the same
-  shared : (left left' : Option (List ℕ)) (P Q : Course → ℕ → Judgment → Type 0) (v : IsVerified (content p) (content e) left P) (w : IsVerified (content p) (content e) left' Q) → (j : Judgment) × (P (length v.taken) j × Q (length w.taken) j)
-  shared left left' P Q v w = (judgment n v.goal bytes, (v.judged n agrees, subst (Q (length w.taken)) same (w.judged m agrees')))
+  shared : (left left' : Option (List ℕ)) (P Q : Course → ℕ → Judgment → Type 0) (v : IsVerified (content p) (content e) left P) (w : IsVerified (content p) (content e) left' Q) → (j : Judgment) × (P (course_of (number_in (length v.names) v.names) v.goal v.taken) (length v.taken) j × Q (course_of (number_in (length w.names) w.names) w.goal w.taken) (length w.taken) j)
+  shared left left' P Q v w = (judgment n v.goal bytes, (v.judged n agrees, subst (Q (course_of m w.goal w.taken) (length w.taken)) same (w.judged m agrees')))
     where
       n : List ℕ → ℕ
       n = number_in (length v.names) v.names
@@ -156,19 +157,20 @@ module _ (numbers : DontMatter) (p e : List ℕ) (content : List ℕ → Content
     no_problem : {r : Refusal} → IsProblemRefused (content p) r → content p ≢ missing → View left (Refused Problem r)
     no_file : (content p ≡ missing) ⊎ (IsGood (content p) × (content e ≡ missing)) → View left ReadFault
 
-  view : (left : Option (List ℕ)) (before now : ℕ) → (Rose before now → ⊥) → (a : Answer) → IsFound a → IsCaused (verify p e) content left before now a → View left a
-  view left before now calm (Accepted n) found (there, same, judged, proved) = accepts judged there.1
-  view left before now calm (Rejected k) found (there, same, judged) = rejects judged there.1
-  view left before now calm (Refused Explicit r) found (there, same, judged) = refuses judged there.1
-  view left before now calm (Refused Problem r) found (there, same, refusal) = no_problem refusal there
-  view left before now calm (Refused Definition r) found (there, same, refusal) = absurd there
-  view left before now calm (Refused Certificate r) found (there, same, refusal) = absurd there
-  view left before now calm (Refused Atom r) found (there, same, refusal) = absurd there
-  view left before now calm (Refused Native r) found (there, same, refusal) = absurd there
-  view left before now calm Usage found (e', same) = let never : ⊥ = cc in absurd never
-  view left before now calm ReadFault found (asked, inl rose) = absurd (calm rose)
-  view left before now calm ReadFault found (asked, inr misses) = no_file misses
-  view left before now calm OutOfMemory found h = absurd found
+  view : (o o' : Option (List (List ℕ))) (left : Option (List ℕ)) (before now : ℕ) → (Rose before now → ⊥) → (a : Answer) → IsFound a → IsCaused (verify p e) content o o' left before now a → View left a
+  view o o' left before now calm (Accepted n) found (there, same, opened, judged, proved) = accepts judged there.1
+  view o o' left before now calm (Rejected k) found (there, same, opened, judged) = rejects judged there.1
+  view o o' left before now calm (Refused Explicit r) found (there, same, opened, judged) = refuses judged there.1
+  view o o' left before now calm (Refused Problem r) found (there, same, opened, refusal) = no_problem refusal there
+  view o o' left before now calm (Refused Definition r) found (there, same, opened, refusal) = absurd there
+  view o o' left before now calm (Refused Certificate r) found (there, same, opened, refusal) = absurd there
+  view o o' left before now calm (Refused Atom r) found (there, same, opened, refusal) = absurd there
+  view o o' left before now calm (Refused Native r) found (there, same, opened, refusal) = absurd there
+  view o o' left before now calm Usage found (e', same, none) = let never : ⊥ = cc in absurd never
+  view o o' left before now calm ReadFault found (asked, inl (rose, nothing)) = absurd (calm rose)
+  view o o' left before now calm ReadFault found (asked, inr (inl (m, none))) = no_file (inl m)
+  view o o' left before now calm ReadFault found (asked, inr (inr (g, m, opened))) = no_file (inr (g, m))
+  view o o' left before now calm OutOfMemory found h = absurd found
 
   -- a problem that was judged isn't refused, and its file is there
   good : (left : Option (List ℕ)) (P : Course → ℕ → Judgment → Type 0) → IsVerified (content p) (content e) left P → IsGood (content p)
@@ -215,21 +217,106 @@ module _ (numbers : DontMatter) (p e : List ℕ) (content : List ℕ → Content
   one left left' _ _ (no_file m) (no_problem {r = t} k there') = absurd (bad-found t k there' m)
   one left left' _ _ (no_file m) (no_file m') = refl
 
+  module _ (pb : List ℕ) (held : content p ≡ holds pb) (w : WrittenFormula) (is : IsProblemOf pb w) where
+    in_file : MayHold (content p) pb
+    in_file = subst (λ c. MayHold c pb) (sym held) refl
+
+    -- the problem is not refused
+    not-refused : (r : Refusal) → IsProblemRefused (content p) r → ⊥
+    not-refused r (inl (e', large)) = small-or-large (content p) pb told in_file is.size large
+    not-refused r (inr (inl (bytes, (held', small, k)))) =
+        problem-not_both (length bytes) (items_of bytes) (record { logic = Lkf; formula = w }) r (reads-same (content p) pb bytes (record { logic = Lkf; formula = w }) told in_file held' is.reads) k
+    not-refused r (inr (inr k)) =
+        let same = problem-read_once (items_of k.bytes) (record { logic = Lkf; formula = w }) k.written (reads-same (content p) pb k.bytes (record { logic = Lkf; formula = w }) told in_file k.held is.reads) k.reads in
+        let never : Lkf ≡ Ljf = ap (λ (v : WrittenProblem). v.logic) same ∙ sym k.in_logic in cc
+
+    there : content p ≢ missing
+    there m = subst (λ c. MayHold c pb) m in_file
+
+    -- each judgment of the certificate is the one that its bytes have
+    judged-so : (eb : List ℕ) → content e ≡ holds eb → (text : ℕ → List ℕ) (number : List ℕ → ℕ) → GivesBack text number → (left : Option (List ℕ)) (P : Course → ℕ → Judgment → Type 0) (v : IsVerified (content p) (content e) left P)
+        → P (course_of (number_in (length v.names) v.names) v.goal v.taken) (length v.taken) (judgment number (formula_meant number [] [] w) eb)
+    judged-so eb held' text number back left P v =
+        let n = number_in (length v.names) v.names in
+        let agrees = Agrees-number_in (length v.names) v.names v.different in
+        let in_e : MayHold (content e) eb = subst (λ c. MayHold c eb) (sym held') refl in
+        let same : v.spelled.read.written ≡ record { logic = Lkf; formula = w } =
+            problem-read_once (items_of pb) v.spelled.read.written (record { logic = Lkf; formula = w }) (reads-same (content p) v.spelled.bytes pb v.spelled.read.written told v.spelled.held in_file v.spelled.read.reads) is.reads
+        in
+        let formula : v.spelled.read.written.formula ≡ w = ap (λ (x : WrittenProblem). x.formula) same in
+        subst (P (course_of n v.goal v.taken) (length v.taken))
+        (
+          ap (judgment n v.goal) (same-bytes (content e) (v.taken ++ left_of left) eb told' v.held in_e)
+          ∙ ap (λ g. judgment n g eb) (v.spelled.read.meant n agrees)
+          ∙ numbers (text_in (length v.names) v.names) text n number (GivesBack-number_in (length v.names) v.names (let l : length v.names ≤ length v.names = omega arith in l)) back v.spelled.read.written.formula (begin-as-names v.names (content p) v.goal v.spelled) eb
+          ∙ ap (λ f. judgment number (formula_meant number [] [] f) eb) formula
+        )
+        (v.judged n agrees)
+
+    due : (eb : List ℕ) → content e ≡ holds eb → (text : ℕ → List ℕ) (number : List ℕ → ℕ) → GivesBack text number → (left : Option (List ℕ)) (a : Answer) → View left a → a ≡ answer_due (judgment number (formula_meant number [] [] w) eb)
+    due eb h text number back left _ (accepts {n = n} v x) = sym (ap answer_due (judged-so eb h text number back left (IsAccepted n) v))
+    due eb h text number back left _ (rejects {k = k} v x) = sym (ap answer_due (judged-so eb h text number back left (IsRejected k) v).1.0)
+    due eb h text number back left _ (refuses {r = r} v x) = sym (ap answer_due (judged-so eb h text number back left (IsRefused r) v).1.0)
+    due eb h text number back left _ (no_problem {r = r} k x) = absurd (not-refused r k)
+    due eb h text number back left _ (no_file (inl m)) = absurd (there m)
+    due eb h text number back left _ (no_file (inr (g, m))) = let never : holds eb ≡ missing = sym h ∙ m in cc
+
+    no-certificate : content e ≡ missing → (left : Option (List ℕ)) (a : Answer) → View left a → a ≡ ReadFault
+    no-certificate m left _ (accepts v x) = absurd (x m)
+    no-certificate m left _ (rejects v x) = absurd (x m)
+    no-certificate m left _ (refuses v x) = absurd (x m)
+    no-certificate m left _ (no_problem {r = r} k x) = absurd (not-refused r k)
+    no-certificate m left _ (no_file h) = refl
+
+  no-problem : content p ≡ missing → (left : Option (List ℕ)) (a : Answer) → View left a → a ≡ ReadFault
+  no-problem m left _ (accepts {n = n} v x) = absurd (good-there (good left (IsAccepted n) v) m)
+  no-problem m left _ (rejects {k = k} v x) = absurd (good-there (good left (IsRejected k) v) m)
+  no-problem m left _ (refuses {r = r} v x) = absurd (good-there (good left (IsRefused r) v) m)
+  no-problem m left _ (no_problem k x) = absurd (x m)
+  no-problem m left _ (no_file h) = refl
+
+  refusal-due : (bytes : List ℕ) (r : Refusal) → content p ≡ holds bytes → IsProblemRefused (content p) r → (left : Option (List ℕ)) (a : Answer) → View left a → a ≡ Refused Problem r
+  refusal-due bytes r h k left _ (accepts {n = n} v x) = absurd (good-refused (good left (IsAccepted n) v) r k)
+  refusal-due bytes r h k left _ (rejects {k = m} v x) = absurd (good-refused (good left (IsRejected m) v) r k)
+  refusal-due bytes r h k left _ (refuses {r = s} v x) = absurd (good-refused (good left (IsRefused s) v) r k)
+  refusal-due bytes r h k left _ (no_problem {r = s} l x) = ap (Refused Problem) (refused-once (content p) s r told l k)
+  refusal-due bytes r h k left _ (no_file (inl m)) = let never : holds bytes ≡ missing = sym h ∙ m in cc
+  refusal-due bytes r h k left _ (no_file (inr (g, m))) = absurd (good-refused g r k)
+
 -- words that are no command have the answer `usage`
-usage-is : (content : List ℕ → Content) (left : Option (List ℕ)) (before now : ℕ) (a : Answer) → IsFound a → IsCaused usage content left before now a → a ≡ Usage
-usage-is content left before now (Accepted n) found (there, same, judged, proved) = absurd there
-usage-is content left before now (Rejected k) found (there, same, judged) = absurd there
-usage-is content left before now (Refused Problem r) found (there, same, refusal) = absurd there
-usage-is content left before now (Refused Definition r) found (there, same, refusal) = absurd there
-usage-is content left before now (Refused Certificate r) found (there, same, refusal) = absurd there
-usage-is content left before now (Refused Explicit r) found (there, same, refusal) = absurd there
-usage-is content left before now (Refused Atom r) found (there, same, refusal) = absurd there
-usage-is content left before now (Refused Native r) found (there, same, refusal) = absurd there
-usage-is content left before now Usage found h = refl
-usage-is content left before now ReadFault found (asked, h) = absurd (asked refl)
-usage-is content left before now OutOfMemory found h = absurd found
+usage-is : (content : List ℕ → Content) (o o' : Option (List (List ℕ))) (left : Option (List ℕ)) (before now : ℕ) (a : Answer) → IsFound a → IsCaused usage content o o' left before now a → a ≡ Usage
+usage-is content o o' left before now (Accepted n) found (there, same, opened, judged, proved) = absurd there
+usage-is content o o' left before now (Rejected k) found (there, same, opened, judged) = absurd there
+usage-is content o o' left before now (Refused Problem r) found (there, same, opened, refusal) = absurd there
+usage-is content o o' left before now (Refused Definition r) found (there, same, opened, refusal) = absurd there
+usage-is content o o' left before now (Refused Certificate r) found (there, same, opened, refusal) = absurd there
+usage-is content o o' left before now (Refused Explicit r) found (there, same, opened, refusal) = absurd there
+usage-is content o o' left before now (Refused Atom r) found (there, same, opened, refusal) = absurd there
+usage-is content o o' left before now (Refused Native r) found (there, same, opened, refusal) = absurd there
+usage-is content o o' left before now Usage found h = refl
+usage-is content o o' left before now ReadFault found (asked, h) = absurd (asked refl)
+usage-is content o o' left before now OutOfMemory found h = absurd found
 
 pub one-answer : DontMatter → HasOneAnswer
-one-answer numbers (verify p e) content told left left' before now before' now' calm calm' a b h k found found' =
-    one numbers p e content told.0 told.1 left left' a b (view numbers p e content told.0 told.1 left before now calm a found h) (view numbers p e content told.0 told.1 left' before' now' calm' b found' k)
-one-answer numbers usage content told left left' before now before' now' calm calm' a b h k found found' = usage-is content left before now a found h ∙ sym (usage-is content left' before' now' b found' k)
+one-answer numbers (verify p e) content told o o' q q' left left' before now before' now' calm calm' a b h k found found' =
+    one numbers p e content told.0 told.1 left left' a b (view numbers p e content told.0 told.1 o o' left before now calm a found h) (view numbers p e content told.0 told.1 q q' left' before' now' calm' b found' k)
+one-answer numbers usage content told o o' q q' left left' before now before' now' calm calm' a b h k found found' = usage-is content o o' left before now a found h ∙ sym (usage-is content q q' left' before' now' b found' k)
+
+module _ (numbers : DontMatter) (p e : List ℕ) (content : List ℕ → Content) (a : Answer) (h : IsGiven p e content a) where
+  seen : View numbers p e content h.known_problem h.known_explicit h.left a
+  seen = view numbers p e content h.known_problem h.known_explicit h.opened h.now_opened h.left h.before h.now h.calm a h.found h.caused
+
+  given-judgment : (pb eb : List ℕ) (w : WrittenFormula) → content p ≡ holds pb → content e ≡ holds eb → IsProblemOf pb w → (text : ℕ → List ℕ) (number : List ℕ → ℕ) → GivesBack text number → a ≡ answer_due (judgment number (formula_meant number [] [] w) eb)
+  given-judgment pb eb w held held' is text number back = due numbers p e content h.known_problem h.known_explicit pb held w is eb held' text number back h.left a seen
+
+pub judgment-is-given : DontMatter → JudgmentIsGiven
+judgment-is-given numbers p e content a h = given-judgment numbers p e content a h
+
+pub refusal-is-given : DontMatter → RefusalIsGiven
+refusal-is-given numbers p e content a h bytes r held k = refusal-due numbers p e content h.known_problem h.known_explicit bytes r held k h.left a (seen numbers p e content a h)
+
+pub missing-is-given : DontMatter → MissingIsGiven
+missing-is-given numbers p e content a h = (
+  λ m. no-problem numbers p e content h.known_problem h.known_explicit m h.left a (seen numbers p e content a h),
+  λ pb w held is m. no-certificate numbers p e content h.known_problem h.known_explicit pb held w is m h.left a (seen numbers p e content a h),
+)

@@ -2,3 +2,4 @@ pub mod Command
 pub mod Answer
 pub mod Run
 pub mod OneAnswer
+pub mod Due

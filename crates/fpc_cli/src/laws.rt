@@ -1,7 +1,15 @@
 //! Laws over the definition of the program's answers. The functions do nothing: their contracts say the laws.
+ghost use Rattle.fpc_cli.specs.Due.{JudgmentIsGiven, MissingIsGiven, RefusalIsGiven};
 ghost use Rattle.fpc_cli.specs.OneAnswer.{HasOneAnswer};
 
 /// The words and the contents of the files have one answer, but for want of memory and failed calls.
 pub fn one_answer()
     ensures { HasOneAnswer }
+{}
+
+/// The answer of `verify` is the one that the contents of the files call for, but for want of memory and failed calls.
+pub fn due_answers()
+    ensures judgment { JudgmentIsGiven }
+    ensures refusal { RefusalIsGiven }
+    ensures missing { MissingIsGiven }
 {}

@@ -19,8 +19,12 @@ use words::Words;
 /// The program's arguments without its name, or the status where they can't be had: 5 where the system gives none as
 /// text, 8 where there is no memory for them.
 fn words_of<R: Env + AllocGlobal>(rt: &R, alloc: Global) -> Result<Words, u8> {
-    let Ok(arguments) = env::args(rt) else {
-        return Err(5);
+    let arguments = match env::args(rt) {
+        Ok(arguments) => arguments,
+        Err(error) => match error.kind() {
+            io::ErrorKind::OutOfMemory => return Err(8),
+            _ => return Err(5),
+        },
     };
     let mut words = Words::new(alloc);
     for argument in arguments.skip(1) {
