@@ -58,17 +58,17 @@ module _ (style : Style) (logic : Logic) where
 
 module _ (leaves : Leaves) where
   mutual
-    term_before-append : (t : Term) (xs ys : List ℕ) → term_before leaves t xs ++ ys ≡ term_before leaves t (xs ++ ys)
+    pub term_before-append : (t : Term) (xs ys : List ℕ) → term_before leaves t xs ++ ys ≡ term_before leaves t (xs ++ ys)
     term_before-append (eigen n) xs ys = rw append_assoc
     term_before-append (bound k) xs ys = rw append_assoc
     term_before-append (variable v) xs ys = rw append_assoc
     term_before-append (app f ts) xs ys = rw (append_assoc, args_before-append ts xs ys)
 
-    args_before-append : (ts : Args) (xs ys : List ℕ) → args_before leaves ts xs ++ ys ≡ args_before leaves ts (xs ++ ys)
+    pub args_before-append : (ts : Args) (xs ys : List ℕ) → args_before leaves ts xs ++ ys ≡ args_before leaves ts (xs ++ ys)
     args_before-append no_args xs ys = refl
     args_before-append (arg t ts) xs ys = rw (term_before-append t (more_before leaves ts xs) ys, more_before-append ts xs ys)
 
-    more_before-append : (ts : Args) (xs ys : List ℕ) → more_before leaves ts xs ++ ys ≡ more_before leaves ts (xs ++ ys)
+    pub more_before-append : (ts : Args) (xs ys : List ℕ) → more_before leaves ts xs ++ ys ≡ more_before leaves ts (xs ++ ys)
     more_before-append no_args xs ys = refl
     more_before-append (arg t ts) xs ys = rw (term_before-append t (more_before leaves ts xs) ys, more_before-append ts xs ys)
 

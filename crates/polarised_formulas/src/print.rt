@@ -1,13 +1,14 @@
 //! Formulas and problems as texts.
-ghost use Rattle.std.specs.Prelude.{◌≡◌, ◌++◌, OnOk, OnErr, IfOk, length};
-ghost use Rattle.polarised_formulas.specs.Text.{plain_text, problem_text};
+ghost use Rattle.std.specs.Prelude.{◌≡◌, ◌++◌, [], OnOk, OnErr, IfOk, length};
+ghost use Rattle.fpc_terms.specs.Text.{name_in};
+ghost use Rattle.polarised_formulas.specs.Text.{plain_text, named_style, formula_before, problem_text};
 ghost use Rattle.polarised_formulas.specs.Printing.{AllNamesBelow};
 
 mod progress;
 #[cfg(test)]
 mod tests;
 mod waiting;
-mod words;
+pub mod words;
 mod writer;
 
 use crate::formula::Formula;
@@ -45,6 +46,27 @@ pub fn print_formula(
         out.truncate(start);
     }
     printed
+}
+
+/// Puts a formula with named variables, as in the text of a problem, behind other bytes. On a refusal `out` may have some of
+/// it. Time and memory are linear in the text's size.
+pub fn push_named_formula(
+    alloc: Global,
+    names: &Names,
+    logic: Logic,
+    f: &Formula,
+    out: &mut Vec<u8>,
+) -> Result<(), OutOfMemory>
+    requires { AllNamesBelow (length names.now) f.now }
+    ensures { OnOk result (out.new.items ≡ out.old.items ++ formula_before (named_style (name_in names.now)) logic 0 f.now []) }
+{
+    let writer = Writer {
+        alloc,
+        names,
+        logic,
+        form: Form::Named,
+    };
+    writer.push_formula(f, out)
 }
 
 /// The text of a problem, with named variables. Time and memory are linear in the text's size.
