@@ -1,11 +1,11 @@
 -- The texts of definitions and certificates piece by piece.
-use Rattle.std.proofs.Common.{◌≡◌, ℕ, List, [], ◌∷◌, ◌++◌, refl, ap, ◌∙◌, append_assoc, decimal, arith, sym, ◌<◌, ◌+◌, ◌-◌}
+use Rattle.std.proofs.Common.{◌≡◌, ℕ, List, [], ◌∷◌, ◌++◌, refl, ap, ◌∙◌, append_assoc, arith, ◌<◌, ◌+◌, ◌-◌}
 use Rattle.std.specs.Prelude.{zero, suc, codes}
 use Rattle.fpc_terms.specs.Term.{Term, app}
-use Rattle.fpc_terms.specs.Text.{name_in, plain_leaves, term_before, term_text, args_before, more_before}
+use Rattle.fpc_terms.specs.Text.{name_in, plain_leaves, term_text, args_before, more_before}
 use Rattle.polarised_formulas.specs.declared.logic.Logic.{Logic}
 use Rattle.polarised_formulas.specs.Text.{named_style, formula_before, logic_text}
-use Rattle.polarised_formulas.proofs.PrintFacts.{term_before-append, args_before-append, more_before-append, formula_before-append}
+use Rattle.polarised_formulas.proofs.PrintFacts.{term_before-append, formula_before-append}
 use Rattle.clause_language.specs.declared.atom.Atom.{Atom}
 use Rattle.clause_language.specs.declared.clause.Clause.{Clause}
 use Rattle.clause_language.specs.declared.declaration.DeclaredFormula.{DeclaredFormula}

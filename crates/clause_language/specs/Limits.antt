@@ -1,5 +1,5 @@
 -- The way into an item, and what the limits forbid in definition and certificate files.
-use Rattle.std.specs.Prelude.{◌≡◌, ℕ, ◌≤◌, Bool, true, false, List, [], ◌∷◌, ◌++◌, length, Option, Some, None}
+use Rattle.std.specs.Prelude.{◌≡◌, ℕ, ◌≤◌, true, false, List, [], ◌∷◌, ◌++◌, length, Option, Some, None}
 use Rattle.fpc_base.specs.declared.refusal.Code.{Code}
 use Rattle.fpc_base.specs.declared.refusal.Code.TheVariants.{ManyArguments, ManyVariables, DuplicateFormula, WrongCalculus}
 use Rattle.fpc_base.specs.declared.tokens.lexeme.Sign.TheVariants as sign

@@ -2,7 +2,7 @@
 use Rattle.std.specs.Prelude.{ℕ, zero, suc, List, [], ◌∷◌, ◌++◌, codes}
 use Rattle.std.specs.Fmt.{decimal}
 use Rattle.fpc_terms.specs.Term.{Term, Args, no_args, arg, app}
-use Rattle.fpc_terms.specs.Text.{Leaves, name_in, plain_leaves, term_before}
+use Rattle.fpc_terms.specs.Text.{name_in, plain_leaves, term_before}
 use Rattle.polarised_formulas.specs.declared.logic.Logic.{Logic}
 use Rattle.polarised_formulas.specs.Text.{named_style, formula_before, logic_text}
 use Rattle.clause_language.specs.declared.atom.Atom.{Atom}

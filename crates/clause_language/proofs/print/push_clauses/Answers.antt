@@ -1,4 +1,4 @@
-use Rattle.std.proofs.Common.{rules, ◌≡◌, ◌+◌, ◌<◌, ◌∷◌, ◌++◌, [], drop, length, sym, ap, ◌∙◌, refl, append_assoc, codes}
+use Rattle.std.proofs.Common.{rules, ◌≡◌, ◌+◌, ◌<◌, ◌∷◌, ◌++◌, [], drop, length, sym, ap, ◌∙◌}
 use Rattle.std.proofs.lemmas.List.{drop_more}
 use Rattle.clause_language.specs.Text.{clause_before, clauses_before}
 use Rattle.clause_language.proofs.PrintFacts.{one-written, clause-append}

@@ -1,4 +1,4 @@
-use Rattle.std.proofs.Common.{rules, ◌≡◌, ◌+◌, ◌<◌, ◌∷◌, ◌++◌, [], drop, length, sym, ap, ◌∙◌, refl, append_assoc, codes}
+use Rattle.std.proofs.Common.{rules, ◌≡◌, ◌+◌, ◌<◌, ◌∷◌, ◌++◌, [], drop, length, sym, ap, ◌∙◌, codes}
 use Rattle.std.proofs.lemmas.List.{drop_more}
 use Rattle.clause_language.specs.Text.{atom_before, more_atoms_before}
 use Rattle.clause_language.proofs.PrintFacts.{one-written, behind, atom-append}

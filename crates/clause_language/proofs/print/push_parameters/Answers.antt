@@ -1,4 +1,4 @@
-use Rattle.std.proofs.Common.{rules, ◌≡◌, ◌+◌, ◌-◌, ◌<◌, ◌∷◌, ◌++◌, [], sym, ap, ◌∙◌}
+use Rattle.std.proofs.Common.{rules, ◌+◌, ◌-◌, ◌<◌, ◌∷◌, ◌++◌, [], sym, ap, ◌∙◌}
 use Rattle.clause_language.specs.Text.{parameter_text, more_parameters_before}
 use Rattle.clause_language.proofs.PrintFacts.{pieces, one-parameter}
 use Rattle.clause_language.proofs.print.push_parameters.Goals as goal
