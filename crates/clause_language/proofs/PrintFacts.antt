@@ -130,10 +130,8 @@ module _ (names : List (List ℕ)) (logic : Logic) where
       ∙ append_assoc (logic_text logic) (10 ∷ []) (declared_before names logic ds (clauses_before names cs []))
 
   pub certificate-pieces : (ds : List DeclaredFormula) (cs : List Clause) (t : Term) →
-      (((((logic_text logic ++ 10 ∷ []) ++ declared_before names logic ds []) ++ clauses_before names cs []) ++ codes "certificate ") ++ term_text names t) ++ codes ".\n"
-      ≡ file_before names logic ds cs (term_line names t)
+      ((file_before names logic ds cs [] ++ codes "certificate ") ++ term_text names t) ++ codes ".\n" ≡ file_before names logic ds cs (term_line names t)
   certificate-pieces ds cs t =
-      pieces (((logic_text logic ++ 10 ∷ []) ++ declared_before names logic ds []) ++ clauses_before names cs []) (codes "certificate ") (term_text names t) (codes ".\n")
-      ∙ ap (λ bytes. (((logic_text logic ++ 10 ∷ []) ++ declared_before names logic ds []) ++ clauses_before names cs []) ++ (codes "certificate " ++ bytes)) (term_before-append (plain_leaves (name_in names)) t [] (codes ".\n"))
-      ∙ ap (λ bytes. bytes ++ term_line names t) (file-pieces ds cs)
+      pieces (file_before names logic ds cs []) (codes "certificate ") (term_text names t) (codes ".\n")
+      ∙ ap (λ bytes. file_before names logic ds cs [] ++ (codes "certificate " ++ bytes)) (term_before-append (plain_leaves (name_in names)) t [] (codes ".\n"))
       ∙ file-append ds cs [] (term_line names t)

@@ -2,7 +2,7 @@
 ghost use Rattle.std.specs.Prelude.{◌≡◌, ◌<◌, ◌++◌, ◌∷◌, [], OnOk, IfOk, length};
 ghost use Rattle.fpc_terms.specs.Text.{name_in, plain_leaves, more_before, args_before};
 ghost use Rattle.polarised_formulas.specs.Text.{logic_text};
-ghost use Rattle.clause_language.specs.Text.{args_of, atom_before, more_atoms_before, body_before, clause_before, parameters_before, declaration_before, declared_before, clauses_before, file_before, definition_text, term_line, certificate_text};
+ghost use Rattle.clause_language.specs.Text.{args_of, atom_before, more_atoms_before, body_before, clause_before, parameters_before, declaration_before, declared_before, clauses_before, file_before, definition_text, certificate_text};
 ghost use Rattle.clause_language.specs.Naming.{AreTermsNamedBelow, IsAtomNamedBelow, AreAtomsNamedBelow, IsClauseNamedBelow, AreClausesNamedBelow, IsDeclarationNamedBelow, AreDeclaredNamedBelow, IsDefinitionNamedBelow, IsCertificateNamedBelow};
 
 #[cfg(test)]
@@ -32,17 +32,9 @@ pub fn print_definition(
     requires { IsDefinitionNamedBelow (length names.now) definition.now }
     ensures { IfOk result (λ text. text.items ≡ definition_text names.now definition.now) }
 {
-    let mut out = Vec::new(alloc);
-    push_logic(definition.logic, &mut out)?;
-    push_declared(
-        alloc,
-        names,
-        definition.logic,
-        definition.declared.items(),
-        &mut out,
-    )?;
-    push_clauses(alloc, names, definition.clauses.items(), &mut out)?;
-    Ok(out)
+    let declared = definition.declared.items();
+    let clauses = definition.clauses.items();
+    print_items(alloc, names, definition.logic, declared, clauses)
 }
 
 /// The text of a certificate: that of its logic, declared formulas and clauses, and a line for its term. Time and memory are
@@ -55,19 +47,31 @@ pub fn print_certificate(
     requires { IsCertificateNamedBelow (length names.now) certificate.now }
     ensures { IfOk result (λ text. text.items ≡ certificate_text names.now certificate.now) }
 {
-    let mut out = Vec::new(alloc);
-    push_logic(certificate.logic, &mut out)?;
-    push_declared(
-        alloc,
-        names,
-        certificate.logic,
-        certificate.declared.items(),
-        &mut out,
-    )?;
-    push_clauses(alloc, names, certificate.clauses.items(), &mut out)?;
+    let declared = certificate.declared.items();
+    let clauses = certificate.clauses.items();
+    let mut out = print_items(alloc, names, certificate.logic, declared, clauses)?;
     out.extend_from_slice(b"certificate ")?;
     print_term(alloc, names, &certificate.term, &mut out)?;
     out.extend_from_slice(b".\n")?;
+    Ok(out)
+}
+
+/// The text of a file up to the end of its clauses.
+fn print_items(
+    alloc: Global,
+    names: &Names,
+    logic: Logic,
+    declared: &[DeclaredFormula],
+    clauses: &[Clause],
+) -> Result<Vec<u8>, OutOfMemory>
+    requires declared { AreDeclaredNamedBelow (length names.now) declared.now }
+    requires clauses { AreClausesNamedBelow (length names.now) clauses.now }
+    ensures { IfOk result (λ text. text.items ≡ file_before names.now logic declared.now clauses.now []) }
+{
+    let mut out = Vec::new(alloc);
+    push_logic(logic, &mut out)?;
+    push_declared(alloc, names, logic, declared, &mut out)?;
+    push_clauses(alloc, names, clauses, &mut out)?;
     Ok(out)
 }
 

@@ -79,16 +79,10 @@ pub fn print_problem(
     requires { AllNamesBelow (length names.now) problem.now.goal }
     ensures { IfOk result (λ text. text.items ≡ problem_text names.now problem.now.logic problem.now.goal) }
 {
-    let writer = Writer {
-        alloc,
-        names,
-        logic: problem.logic,
-        form: Form::Named,
-    };
     let mut text = Vec::new(alloc);
     text.extend_from_slice(logic_word(problem.logic).as_bytes())?;
     text.push(b' ')?;
-    writer.push_formula(&problem.goal, &mut text)?;
+    push_named_formula(alloc, names, problem.logic, &problem.goal, &mut text)?;
     text.extend_from_slice(b".\n")?;
     Ok(text)
 }
