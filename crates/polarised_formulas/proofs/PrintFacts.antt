@@ -64,11 +64,11 @@ module _ (leaves : Leaves) where
     term_before-append (variable v) xs ys = rw append_assoc
     term_before-append (app f ts) xs ys = rw (append_assoc, args_before-append ts xs ys)
 
-    pub args_before-append : (ts : Args) (xs ys : List ℕ) → args_before leaves ts xs ++ ys ≡ args_before leaves ts (xs ++ ys)
+    args_before-append : (ts : Args) (xs ys : List ℕ) → args_before leaves ts xs ++ ys ≡ args_before leaves ts (xs ++ ys)
     args_before-append no_args xs ys = refl
     args_before-append (arg t ts) xs ys = rw (term_before-append t (more_before leaves ts xs) ys, more_before-append ts xs ys)
 
-    pub more_before-append : (ts : Args) (xs ys : List ℕ) → more_before leaves ts xs ++ ys ≡ more_before leaves ts (xs ++ ys)
+    more_before-append : (ts : Args) (xs ys : List ℕ) → more_before leaves ts xs ++ ys ≡ more_before leaves ts (xs ++ ys)
     more_before-append no_args xs ys = refl
     more_before-append (arg t ts) xs ys = rw (term_before-append t (more_before leaves ts xs) ys, more_before-append ts xs ys)
 
