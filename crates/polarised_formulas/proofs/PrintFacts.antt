@@ -58,7 +58,7 @@ module _ (style : Style) (logic : Logic) where
 
 module _ (leaves : Leaves) where
   mutual
-    term_before-append : (t : Term) (xs ys : List ℕ) → term_before leaves t xs ++ ys ≡ term_before leaves t (xs ++ ys)
+    pub term_before-append : (t : Term) (xs ys : List ℕ) → term_before leaves t xs ++ ys ≡ term_before leaves t (xs ++ ys)
     term_before-append (eigen n) xs ys = rw append_assoc
     term_before-append (bound k) xs ys = rw append_assoc
     term_before-append (variable v) xs ys = rw append_assoc

@@ -1,13 +1,14 @@
 //! Formulas and problems as texts.
-ghost use Rattle.std.specs.Prelude.{◌≡◌, ◌++◌, OnOk, OnErr, IfOk, length};
-ghost use Rattle.polarised_formulas.specs.Text.{plain_text, problem_text};
+ghost use Rattle.std.specs.Prelude.{◌≡◌, ◌++◌, [], OnOk, OnErr, IfOk, length};
+ghost use Rattle.fpc_terms.specs.Text.{name_in};
+ghost use Rattle.polarised_formulas.specs.Text.{plain_text, named_style, formula_before, problem_text};
 ghost use Rattle.polarised_formulas.specs.Printing.{AllNamesBelow};
 
 mod progress;
 #[cfg(test)]
 mod tests;
 mod waiting;
-mod words;
+pub mod words;
 mod writer;
 
 use crate::formula::Formula;
@@ -47,6 +48,27 @@ pub fn print_formula(
     printed
 }
 
+/// Puts a formula with named variables, as in the text of a problem, behind other bytes. On a refusal `out` may have some of
+/// it. Time and memory are linear in the text's size.
+pub fn push_named_formula(
+    alloc: Global,
+    names: &Names,
+    logic: Logic,
+    f: &Formula,
+    out: &mut Vec<u8>,
+) -> Result<(), OutOfMemory>
+    requires { AllNamesBelow (length names.now) f.now }
+    ensures { OnOk result (out.new.items ≡ out.old.items ++ formula_before (named_style (name_in names.now)) logic 0 f.now []) }
+{
+    let writer = Writer {
+        alloc,
+        names,
+        logic,
+        form: Form::Named,
+    };
+    writer.push_formula(f, out)
+}
+
 /// The text of a problem, with named variables. Time and memory are linear in the text's size.
 #[tactic(auto, using(crate::proofs::PrintFacts::print_facts))]
 pub fn print_problem(
@@ -57,16 +79,10 @@ pub fn print_problem(
     requires { AllNamesBelow (length names.now) problem.now.goal }
     ensures { IfOk result (λ text. text.items ≡ problem_text names.now problem.now.logic problem.now.goal) }
 {
-    let writer = Writer {
-        alloc,
-        names,
-        logic: problem.logic,
-        form: Form::Named,
-    };
     let mut text = Vec::new(alloc);
     text.extend_from_slice(logic_word(problem.logic).as_bytes())?;
     text.push(b' ')?;
-    writer.push_formula(&problem.goal, &mut text)?;
+    push_named_formula(alloc, names, problem.logic, &problem.goal, &mut text)?;
     text.extend_from_slice(b".\n")?;
     Ok(text)
 }

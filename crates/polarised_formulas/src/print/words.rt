@@ -7,7 +7,7 @@ use crate::logic::{Logic, Polarity};
 use crate::print::waiting::Operator;
 
 /// The word of a logic.
-pub(crate) fn logic_word(logic: Logic) -> &'static str
+pub fn logic_word(logic: Logic) -> &'static str
     ensures { result.now ≡ logic_text logic }
 {
     match logic {

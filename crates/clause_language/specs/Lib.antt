@@ -1,0 +1,5 @@
+pub mod Written
+pub mod Meant
+pub mod Limits
+pub mod Text
+pub mod Naming

@@ -1,0 +1,22 @@
+//! Definition and certificate files of proof formats: clauses, declared formulas and certificate terms, and their texts.
+#![tactic(auto)]
+
+pub mod atom;
+pub mod atom_list;
+pub mod certificate;
+pub mod clause;
+pub mod clause_list;
+pub mod declaration;
+pub mod declaration_list;
+pub mod definition;
+pub mod print;
+
+pub use atom::Atom;
+pub use atom_list::Atoms;
+pub use certificate::Certificate;
+pub use clause::Clause;
+pub use clause_list::Clauses;
+pub use declaration::DeclaredFormula;
+pub use declaration_list::Declared;
+pub use definition::Definition;
+pub use print::{print_certificate, print_definition};
