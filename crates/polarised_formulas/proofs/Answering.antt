@@ -1,7 +1,6 @@
 -- How a reader that stands at a reading answers a byte.
-use Rattle.std.proofs.Common.{◌≡◌, ℕ, suc, ◌<◌, ◌≤◌, Bool, true, false, if◌then◌else◌, List, [], ◌∷◌, length, Option, Some, None, Result, Ok, Err, refl, sym, ap, ◌∙◌, subst, arith, nat_eq, nat_lt}
-use Rattle.fpc_base.specs.declared.refusal.Code.{Code}
-use Rattle.fpc_base.specs.declared.refusal.Code.TheVariants.{Unexpected, TooDeep}
+use Rattle.std.proofs.Common.{◌≡◌, ℕ, suc, Bool, true, false, if◌then◌else◌, List, [], ◌∷◌, length, Some, None, Result, Ok, Err, refl, sym, ap, subst, arith, nat_eq}
+use Rattle.fpc_base.specs.declared.refusal.Code.TheVariants.{Unexpected}
 use Rattle.fpc_base.specs.declared.refusal.TokenRefusal.{TokenRefusal}
 use Rattle.fpc_base.specs.declared.refusal.TokenRefusal.TheVariants.{Refused, OutOfMemory}
 use Rattle.fpc_terms.specs.Term.{Term, Args, arg, no_args}
@@ -10,7 +9,7 @@ use Rattle.polarised_formulas.specs.declared.logic.Logic.{Logic}
 use Rattle.polarised_formulas.specs.declared.connective.Joiner as joiner
 use Rattle.polarised_formulas.specs.Formula.{Formula, atom}
 use Rattle.polarised_formulas.specs.Unfinished as built
-use Rattle.polarised_formulas.specs.PlainReading.{Operator, conjunction, disjunction, implication, Quantifier, every, some, binary, quantified, Hole, first_of, second_of, under, depth_of, Around, alone, in_term, in_atom, depth_around, Reading, at_formula, behind_formula, in_operator, at_term, behind_term, Next, on, whole_term, whole_formula, wrong, args_onto, end_formula, end_term}
+use Rattle.polarised_formulas.specs.PlainReading.{Operator, conjunction, disjunction, implication, Quantifier, every, some, binary, quantified, Hole, first_of, second_of, under, depth_of, Around, alone, in_term, in_atom, depth_around, Reading, behind_formula, in_operator, behind_term, Next, on, whole_formula, wrong, args_onto, end_formula, end_term}
 use Rattle.polarised_formulas.specs.declared.plain.reader.Mode as mode
 use Rattle.polarised_formulas.specs.declared.plain.reader.Outside as outside
 use Rattle.polarised_formulas.specs.declared.plain.reader.Progress as progress

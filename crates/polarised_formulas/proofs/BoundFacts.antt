@@ -1,5 +1,5 @@
 -- How a variable is looked up among those that are bound, and how some of them are left.
-use Rattle.std.proofs.Common.{◌≡◌, ℕ, zero, suc, ◌+◌, ◌-◌, ◌<◌, ◌≤◌, Bool, true, false, ◌||◌, if◌then◌else◌, List, [], ◌∷◌, ◌++◌, length, drop, take, map, reverse, get_or, refl, ap, sym, ◌∙◌, Option, Some, None, arith, nat_le, inl, inr}
+use Rattle.std.proofs.Common.{◌≡◌, ℕ, zero, suc, ◌+◌, ◌-◌, ◌<◌, ◌≤◌, true, false, List, [], ◌∷◌, ◌++◌, length, take, map, reverse, get_or, refl, ap, sym, ◌∙◌, Some, arith, nat_le, inl, inr}
 use Rattle.std.specs.Str.{bytes_eq}
 use Rattle.std.specs.Cmp.Lexicographic.{bytes_decides}
 use Rattle.std.proofs.lemmas.List.{length-append, length-reverse, length-map, length-take-le, map-append, reverse-append, append_assoc}

@@ -1,18 +1,17 @@
 -- A formula that is read has its names in the table.
-use Rattle.std.specs.Prelude.{◌≡◌, ℕ, ◌<◌, Bool, true, false, if◌then◌else◌, List, [], ◌∷◌, length}
-use Rattle.std.proofs.Common.{ap, sym, ◌∙◌}
+use Rattle.std.specs.Prelude.{◌≡◌, ℕ, Bool, true, false, if◌then◌else◌, List, [], ◌∷◌, length}
+use Rattle.std.proofs.Common.{sym, ◌∙◌}
 use Rattle.fpc_base.specs.Tokens.{is_one_of}
 use Rattle.fpc_terms.specs.Name.{Agrees, AreDifferent, index_in}
-use Rattle.fpc_terms.specs.Term.{Term, Args, bound, variable}
-use Rattle.fpc_terms.specs.Printing.{HasNamesBelow, HaveNamesBelow}
-use Rattle.fpc_terms.specs.Written.{args_meant}
+use Rattle.fpc_terms.specs.Term.{Args, bound, variable}
+use Rattle.fpc_terms.specs.Printing.{HasNamesBelow}
 use Rattle.fpc_terms.proofs.NamesBelow.{number-below, args-below}
 use Rattle.polarised_formulas.specs.declared.connective.Joiner.{Joiner}
 use Rattle.polarised_formulas.specs.declared.connective.Joiner.TheVariants.{And, Or, Implies}
 use Rattle.polarised_formulas.specs.declared.connective.Binder.TheVariants.{ForAll, Exists}
-use Rattle.polarised_formulas.specs.Formula.{Formula, truth, falsity, atom, conj, disj, implies, for_all, exists}
+use Rattle.polarised_formulas.specs.Formula.{Formula, atom, for_all, exists}
 use Rattle.polarised_formulas.specs.Printing.{AllNamesBelow}
-use Rattle.polarised_formulas.specs.Written.{WrittenFormula, true_unit, false_unit, literal, pair, bind, formula_meant, variable_meant, joined_by, bound_by}
+use Rattle.polarised_formulas.specs.Written.{WrittenFormula, true_unit, false_unit, literal, pair, bind, formula_meant, variable_meant, joined_by}
 
 leaf-below : (n : ℕ) (parameters scope : List (List ℕ)) (x : List ℕ) (b : Bool) → HasNamesBelow n (if b then bound (index_in scope x) else variable (index_in parameters x))
 leaf-below n parameters scope x true = tt

@@ -1,5 +1,5 @@
 -- The names of what is plain with a table stand in the table.
-use Rattle.std.proofs.Common.{◌≡◌, ℕ, zero, suc, ◌<◌, true, List, [], ◌∷◌, length, Result, Ok, Err, arith}
+use Rattle.std.proofs.Common.{◌≡◌, ℕ, zero, suc, ◌<◌, true, List, [], ◌∷◌, length, arith}
 use Rattle.fpc_terms.specs.Term.{Term, Args, eigen, bound, variable, app, no_args, arg}
 use Rattle.fpc_terms.specs.Text.{name_in}
 use Rattle.fpc_terms.specs.Printing.{HasNamesBelow, HaveNamesBelow}

@@ -1,6 +1,6 @@
 -- How a token is taken with a table of names that grows, and how a formula is read.
-use Rattle.std.specs.Prelude.{◌≡◌, ℕ, Bool, not, true, false, List, [], ◌∷◌, Option, Some, None, Result, Ok, Err, refl, slice_get, is_some}
-use Rattle.std.proofs.Common.{ap, sym, ◌∙◌, subst}
+use Rattle.std.specs.Prelude.{◌≡◌, ℕ, Bool, not, true, false, List, [], ◌∷◌, Option, Some, None, Result, Ok, Err, refl, is_some}
+use Rattle.std.proofs.Common.{ap, subst}
 use Rattle.fpc_base.specs.declared.refusal.Code.{Code}
 use Rattle.fpc_base.specs.declared.refusal.Code.TheVariants.{Unexpected}
 use Rattle.fpc_base.specs.declared.refusal.Refusal.{Refusal}
@@ -19,7 +19,7 @@ use Rattle.polarised_formulas.specs.declared.logic.Logic.{Logic}
 use Rattle.polarised_formulas.specs.declared.reader.FormulaReader.{FormulaReader}
 use Rattle.polarised_formulas.specs.Written.{WrittenFormula, literal}
 use Rattle.polarised_formulas.specs.Place.{Place, whole}
-use Rattle.polarised_formulas.specs.Machine.{FormulaState, wants, marked, binding, bound_to, named, in_atom, has, stuck, after, limited, within, is_full, whole_of, is_ended, ended_at}
+use Rattle.polarised_formulas.specs.Machine.{FormulaState, wants, named, has, limited, within, is_full, whole_of, is_ended, ended_at}
 use Rattle.polarised_formulas.specs.Holding.{Holds, Takes}
 use Rattle.polarised_formulas.specs.ReadFormula.{HoldsFor, TakesFor, IsFormulaRefusal, Leads, ends_before}
 use Rattle.polarised_formulas.proofs.FormulaLaws.{after-whole}

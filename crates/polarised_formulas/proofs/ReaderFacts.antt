@@ -1,5 +1,5 @@
 -- How a reader that holds a state of the machine of formulas takes a token.
-use Rattle.std.specs.Prelude.{◌≡◌, ◌↔◌, ℕ, suc, ◌<◌, ◌≤◌, Bool, true, false, List, [], ◌∷◌, length, Option, Some, None, Result, Ok, Err, nat_eq, refl, is_some, if◌then◌else◌, IsTrue, OnOk, IfErr, slice_get}
+use Rattle.std.specs.Prelude.{◌≡◌, ◌↔◌, ℕ, suc, ◌≤◌, Bool, true, false, List, [], ◌∷◌, length, Option, Some, None, Result, Ok, Err, nat_eq, refl, is_some, if◌then◌else◌, IsTrue, OnOk, IfErr, slice_get}
 use Rattle.std.proofs.Common.{ap, sym, ◌∙◌, arith, subst}
 use Rattle.std.proofs.lemmas.Bool.Decides.{nat_tests}
 use Rattle.fpc_base.specs.declared.refusal.Code.{Code}
@@ -9,7 +9,7 @@ use Rattle.fpc_base.specs.declared.refusal.TokenRefusal.TheVariants.{Refused, Ou
 use Rattle.fpc_base.specs.declared.tokens.lexeme.Sign.{Sign}
 use Rattle.fpc_base.specs.declared.tokens.lexeme.Sign.TheVariants as sign
 use Rattle.fpc_base.specs.declared.tokens.lexeme.Lexeme as code
-use Rattle.fpc_base.specs.Lexeme.{Lexeme, a_name, a_variable, a_number, a_sign, unused, lexeme_as}
+use Rattle.fpc_base.specs.Lexeme.{Lexeme, a_name, a_sign, lexeme_as}
 use Rattle.fpc_terms.specs.Term.{Term, no_args}
 use Rattle.fpc_terms.specs.Written.{WrittenArgs, no_words, args_meant}
 use Rattle.fpc_terms.specs.declared.reader.Mode.TheVariants as term_mode
@@ -19,22 +19,21 @@ use Rattle.fpc_terms.specs.Machine as term
 use Rattle.fpc_terms.specs.Holding as held
 use Rattle.polarised_formulas.specs.declared.logic.Logic.{Logic}
 use Rattle.polarised_formulas.specs.declared.logic.Logic.TheVariants.{Lkf, Ljf}
-use Rattle.polarised_formulas.specs.declared.logic.Polarity.{Polarity}
 use Rattle.polarised_formulas.specs.declared.connective.Joiner.{Joiner}
 use Rattle.polarised_formulas.specs.declared.connective.Joiner.TheVariants.{And, Or, Implies}
 use Rattle.polarised_formulas.specs.declared.connective.Binder.{Binder}
 use Rattle.polarised_formulas.specs.declared.connective.Binder.TheVariants.{ForAll, Exists}
 use Rattle.polarised_formulas.specs.Formula.{Formula, atom}
-use Rattle.polarised_formulas.specs.Written.{WrittenFormula, true_unit, false_unit, literal, pair, bind, formula_meant, variable_meant, is_known, joined_by, bound_by}
+use Rattle.polarised_formulas.specs.Written.{WrittenFormula, literal, pair, bind, formula_meant, variable_meant, is_known, joined_by}
 use Rattle.polarised_formulas.specs.Place.{Place, whole, in_first, in_second, under, scope_at, nesting}
-use Rattle.polarised_formulas.specs.Machine.{FormulaState, wants, marked, binding, bound_to, named, in_atom, has, stuck, begun, joiner_of, after, step, limited, within, within_atom, is_full, is_deep, whole_of, is_ended, ended_at}
+use Rattle.polarised_formulas.specs.Machine.{FormulaState, wants, marked, binding, bound_to, named, in_atom, has, stuck, begun, joiner_of, after, limited, within, within_atom, is_full, whole_of, is_ended, ended_at}
 use Rattle.polarised_formulas.specs.Unfinished as building
 use Rattle.polarised_formulas.specs.Bound.{outermost}
 use Rattle.polarised_formulas.specs.declared.reader.Beginning.{Beginning}
 use Rattle.polarised_formulas.specs.declared.reader.Beginning.TheVariants as begin
 use Rattle.polarised_formulas.specs.declared.reader.Mode.TheVariants as mode
 use Rattle.polarised_formulas.specs.declared.reader.FormulaReader.{FormulaReader}
-use Rattle.polarised_formulas.specs.Holding.{beginning_of, begun_by, begins_within, holes_at, built, mode_of, is_standing, Holds, Takes, IsLive}
+use Rattle.polarised_formulas.specs.Holding.{beginning_of, begun_by, begins_within, holes_at, mode_of, is_standing, Holds, Takes, IsLive}
 use Rattle.polarised_formulas.proofs.BoundFacts.{outermost-all, outermost-later}
 
 -- what a sign begins, where it begins something

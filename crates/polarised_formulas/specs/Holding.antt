@@ -12,7 +12,7 @@ use Rattle.polarised_formulas.specs.declared.logic.Logic.{Logic}
 use Rattle.polarised_formulas.specs.declared.logic.Logic.TheVariants.{Lkf, Ljf}
 use Rattle.polarised_formulas.specs.declared.logic.Polarity.TheVariants.{Positive, Negative}
 use Rattle.polarised_formulas.specs.declared.connective.Binder.TheVariants.{ForAll, Exists}
-use Rattle.polarised_formulas.specs.Written.{WrittenFormula, true_unit, false_unit, formula_meant, variable_meant, is_known}
+use Rattle.polarised_formulas.specs.Written.{true_unit, false_unit, formula_meant, variable_meant}
 use Rattle.polarised_formulas.specs.Place.{Place, whole, in_first, in_second, under, scope_at, nesting}
 use Rattle.polarised_formulas.specs.Machine.{FormulaState, wants, marked, binding, bound_to, named, in_atom, has, stuck}
 use Rattle.polarised_formulas.specs.Unfinished as building

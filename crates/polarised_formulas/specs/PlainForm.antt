@@ -1,5 +1,5 @@
 -- The terms and formulas that have a plain form, what stands on a line, and the laws that tie this to the reading byte by byte.
-use Rattle.std.specs.Prelude.{◌≡◌, ℕ, suc, ◌<◌, Bool, true, false, ◌↔◌, List, [], ◌∷◌, ◌++◌}
+use Rattle.std.specs.Prelude.{◌≡◌, ℕ, suc, ◌<◌, true, false, ◌↔◌, List, [], ◌∷◌, ◌++◌}
 pub use Rattle.fpc_terms.specs.Name.{begins_name}
 use Rattle.fpc_terms.specs.Term.{Term, Args, eigen, bound, variable, app, no_args, arg, IsProperTerm}
 use Rattle.fpc_terms.specs.Text.{term_before, plain_leaves}

@@ -1,5 +1,5 @@
 -- How the fields of a reader stand for a reading, and what it answers to a byte.
-use Rattle.std.specs.Prelude.{◌≡◌, ℕ, suc, ◌<◌, ◌≤◌, Bool, true, false, if◌then◌else◌, nat_lt, List, [], ◌∷◌, length, codes, Option, Some, None, Result, Ok, Err}
+use Rattle.std.specs.Prelude.{◌≡◌, ℕ, ◌<◌, Bool, true, false, if◌then◌else◌, nat_lt, List, [], ◌∷◌, codes, Option, Some, None, Result, Ok, Err}
 use Rattle.std.specs.Str.{bytes_eq}
 use Rattle.fpc_base.specs.declared.refusal.Code.{Code}
 use Rattle.fpc_base.specs.declared.refusal.Code.TheVariants.{Unexpected, TooDeep, LongName, ManyArguments}
@@ -7,13 +7,12 @@ use Rattle.fpc_base.specs.declared.refusal.TokenRefusal.{TokenRefusal}
 use Rattle.fpc_base.specs.declared.refusal.TokenRefusal.TheVariants.{Refused, OutOfMemory}
 use Rattle.fpc_base.specs.declared.outside.OutOfMemory as outside_world
 use Rattle.fpc_terms.specs.Name.{IsNameBegun, is_small_letter}
-use Rattle.fpc_terms.specs.Term.{Term, app, arg, no_args}
+use Rattle.fpc_terms.specs.Term.{Term}
 use Rattle.fpc_terms.specs.Partial.{Frame, Partial, frame, nothing, with_term}
 use Rattle.polarised_formulas.specs.declared.logic.Logic.{Logic}
 use Rattle.polarised_formulas.specs.declared.logic.Logic.TheVariants.{Lkf, Ljf}
 use Rattle.polarised_formulas.specs.declared.connective.Joiner as joiner
 use Rattle.polarised_formulas.specs.declared.connective.Binder as binder
-use Rattle.polarised_formulas.specs.Formula.{Formula}
 use Rattle.polarised_formulas.specs.Unfinished as built
 use Rattle.polarised_formulas.specs.PlainReading.{Operator, conjunction, disjunction, implication, Quantifier, every, some, Word, true_unit, false_unit, binder, Hole, first_of, second_of, under, Around, alone, in_term, in_atom, Reading, at_formula, in_word, at_name, in_name, behind_formula, in_operator, at_term, in_function, at_eigen, in_eigen, at_index, in_index, behind_term, Next, on, whole_term, whole_formula, wrong, next}
 use Rattle.polarised_formulas.specs.PlainLimits.{name_length, arguments_of, arguments_before}

@@ -13,7 +13,7 @@ use Rattle.polarised_formulas.specs.Formula.{Formula}
 use Rattle.polarised_formulas.specs.PlainReading.{Around, alone, in_term, in_atom, Reading, at_formula, in_word, at_name, in_name, behind_formula, in_operator, at_term, in_function, at_eigen, in_eigen, at_index, in_index, behind_term, Next, on, of_formula, start}
 use Rattle.polarised_formulas.specs.PlainForm.{GivesBack}
 use Rattle.polarised_formulas.specs.PlainTexts.{IsPlainIn}
-use Rattle.polarised_formulas.specs.PlainLimits.{limit_of, fault_inside, Outcome, a_formula, refused, outcome_at_end, outcome, FitsFormula, IsRefused, Comes, ComesRefused}
+use Rattle.polarised_formulas.specs.PlainLimits.{limit_of, fault_inside, Outcome, a_formula, refused, outcome, FitsFormula, IsRefused, Comes, ComesRefused}
 use Rattle.polarised_formulas.specs.PlainStanding.{Stands}
 use Rattle.polarised_formulas.specs.declared.plain.reader.PlainReader.{PlainReader}
 

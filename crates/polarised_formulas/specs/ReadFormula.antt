@@ -1,5 +1,5 @@
 -- What is read of a formula, and how it is refused.
-use Rattle.std.specs.Prelude.{◌≡◌, ℕ, Bool, ◌&&◌, not, is_some, List, [], Option, Some, Result, Ok, Err}
+use Rattle.std.specs.Prelude.{◌≡◌, ℕ, Bool, ◌&&◌, not, is_some, List, [], Some, Result, Ok, Err}
 use Rattle.fpc_base.specs.declared.refusal.Code.{Code}
 use Rattle.fpc_base.specs.declared.refusal.ParseRefusal.{ParseRefusal}
 use Rattle.fpc_base.specs.declared.refusal.ParseRefusal.TheVariants as parse

@@ -1,4 +1,3 @@
-use Rattle.std.proofs.Common.{ap, sym, ◌∙◌}
 use Rattle.fpc_terms.proofs.ReadFacts.{Agrees-index_in}
 use Rattle.polarised_formulas.proofs.FormulaNames.{told-names}
 use Rattle.polarised_formulas.proofs.read.read_formula.Goals as goal

@@ -1,6 +1,5 @@
-use Rattle.std.proofs.Common.{refl, sym, ◌∙◌, ◌≡◌, ap, arith, reverse, map, take, subst, ◌∷◌, ◌-◌, ◌<◌, ◌≤◌, List, ℕ, length, Some}
+use Rattle.std.proofs.Common.{sym, ◌∙◌, arith, reverse, map, take, ◌∷◌, ◌-◌, ◌<◌, ◌≤◌, length}
 use Rattle.std.specs.Cmp.Lexicographic.{bytes_decides}
-use Rattle.fpc_terms.specs.Name.{place_in}
 use Rattle.polarised_formulas.proofs.BoundFacts.{Passed, Passed-found, Passed-next, last-first, length-turned}
 use Rattle.polarised_formulas.proofs.bound.BoundNames.find.Goals as goal
 

@@ -1,4 +1,4 @@
-use Rattle.std.proofs.Common.{refl, sym, ◌∙◌, length}
+use Rattle.std.proofs.Common.{sym, ◌∙◌}
 use Rattle.polarised_formulas.proofs.BoundFacts.{outermost-all}
 use Rattle.polarised_formulas.proofs.bound.BoundNames.keep.Goals as goal
 

@@ -1,4 +1,4 @@
-use Rattle.std.proofs.Common.{sym, ◌∙◌, refl, Ok}
+use Rattle.std.proofs.Common.{refl, Ok}
 use Rattle.polarised_formulas.specs.Formula.{truth, falsity}
 use Rattle.polarised_formulas.specs.Unfinished.{placed, opened}
 use Rattle.polarised_formulas.specs.declared.reader.Beginning.TheVariants as begin

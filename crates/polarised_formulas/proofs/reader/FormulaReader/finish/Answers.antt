@@ -1,4 +1,3 @@
-use Rattle.std.proofs.Common.{refl}
 use Rattle.polarised_formulas.proofs.ReaderFacts.{whole-has, whole-named}
 use Rattle.polarised_formulas.proofs.reader.FormulaReader.finish.Goals as goal
 

@@ -1,4 +1,4 @@
-use Rattle.std.proofs.Common.{sym, ◌∙◌, refl}
+use Rattle.std.proofs.Common.{sym, ◌∙◌}
 use Rattle.polarised_formulas.proofs.ReaderFacts.{takes-sign}
 use Rattle.polarised_formulas.proofs.reader.FormulaReader.take_sign.Goals as goal
 
