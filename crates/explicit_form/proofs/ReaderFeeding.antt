@@ -81,7 +81,7 @@ HasTaken-next number logic st place front b r s h none t =
 -- the loop over bytes: what it has done when it has taken the first i of them
 pub record IsInside (old_names names : List (List ℕ)) (old r : StepReader) (bytes : List ℕ) (i : ℕ) : Type 0 where
   pub grown : Grows old_names names
-  pub only : (logic : Logic) (before : List ℕ) → StandsBehind logic old_names before old → AddsOnly (IsPartIn before (line_in bytes)) old_names names
+  pub only : (logic : Logic) (before : List ℕ) → AreDifferent names → StandsBehind logic old_names before old → AddsOnly (IsPartIn before (line_in bytes)) old_names names
   pub place : r.at ≡ old.at + i
   pub line : line_length bytes ≡ i + line_length (drop i bytes)
   pub taken : (number : List ℕ → ℕ) (logic : Logic) (st : State) → Agrees number names → IsAt logic st old → HasTaken number logic st old.at (take i bytes) r × (r.step ≡ None)
@@ -89,7 +89,7 @@ pub record IsInside (old_names names : List (List ℕ)) (old r : StepReader) (by
 pub inside-begin : (names : List (List ℕ)) (old : StepReader) (bytes : List ℕ) → IsInside names names old (record old { step = None }) bytes 0
 inside-begin names old bytes = record {
   grown = λ k text h. h;
-  only = λ logic before h. AddsOnly-same (IsPartIn before (line_in bytes)) names;
+  only = λ logic before differ h. AddsOnly-same (IsPartIn before (line_in bytes)) names;
   place = sym (add-zero old.at);
   line = sym (zero-add (line_length bytes));
   taken = λ number logic st agrees h. (
@@ -134,13 +134,14 @@ module _ (old_names names now : List (List ℕ)) (old r s : StepReader) (bytes :
   before number logic st agrees h = inside.taken number logic st (Agrees-grows names now number grows agrees) h
 
   -- what was added before the byte, and with it
-  pub added : AreDifferent names → AddsOnly (IsLineWord r) names now → (logic : Logic) (front : List ℕ) → StandsBehind logic old_names front old → AddsOnly (IsPartIn front (line_in bytes)) old_names now
-  added differ more logic front stands =
+  pub added : AddsOnly (IsLineWord r) names now → (logic : Logic) (front : List ℕ) → AreDifferent now → StandsBehind logic old_names front old → AddsOnly (IsPartIn front (line_in bytes)) old_names now
+  added more logic front differs stands =
+      let differ : AreDifferent names = λ i j text a b. differs i j text (grows i text a) (grows j text b) in
       let number = index_in names in
       let agrees : Agrees number names = Agrees-index_in names differ in
       let p = inside.taken number logic (run number logic start front) agrees (stands number (Agrees-grows old_names names number inside.grown agrees)) in
       let here : IsAt logic (run number logic start (front ++ take i bytes)) r = subst (λ st. IsAt logic st r) (sym (run-append number logic start front (take i bytes))) p.0.where_is in
-      AddsOnly-then (IsPartIn front (line_in bytes)) old_names names now (inside.only logic front stands)
+      AddsOnly-then (IsPartIn front (line_in bytes)) old_names names now (inside.only logic front differ stands)
       (AddsOnly-wider (IsLineWord r) (IsPartIn front (line_in bytes)) names now
       (λ text w. (take i bytes, b ∷ behind, (sym line-is, word-ends logic (front ++ take i bytes) text (run number logic start (front ++ take i bytes)) r (state-begun number logic (front ++ take i bytes)) here w)))
       more)
@@ -153,10 +154,10 @@ module _ (old_names names now : List (List ℕ)) (old r s : StepReader) (bytes :
       × (s.step ≡ step_with number logic (run number logic st (take i bytes)) b)) here t) in
       subst (λ bs. HasTaken number logic st old.at bs s) (sym grown-i ∙ ap (λ n. take n bytes) (sym (add-one i))) next
 
-  pub inside-next : Answered (Ok tt) → s.at ≡ r.at + 1 → (b ≡ 10 → ⊥) → AreDifferent names → AddsOnly (IsLineWord r) names now → IsInside old_names now old s bytes (i + 1)
-  inside-next answered at goes differ more = let on : nat_eq b 10 ≡ false = grind (arith, nat_tests) in record {
+  pub inside-next : Answered (Ok tt) → s.at ≡ r.at + 1 → (b ≡ 10 → ⊥) → AddsOnly (IsLineWord r) names now → IsInside old_names now old s bytes (i + 1)
+  inside-next answered at goes more = let on : nat_eq b 10 ≡ false = grind (arith, nat_tests) in record {
     grown = all_grown;
-    only = added differ more;
+    only = added more;
     place = let e = inside.place in omega arith;
     line = let e = inside.line in
         let f : line_length (drop i bytes) ≡ suc (line_length (drop (suc i) bytes)) = ap line_length split ∙ ap (λ c. if c then 1 else suc (line_length (drop (suc i) bytes))) on in

@@ -1,6 +1,6 @@
 //! An explicit certificate that is read in pieces.
 ghost use Rattle.std.specs.Prelude.{◌≡◌, ℕ, ◌+◌, ◌∷◌, ◌++◌, [], List, Some, None, Ok, Err, IfOk, IsTrue, ◌↔◌, ◌<◌, ◌≤◌, length};
-ghost use Rattle.fpc_terms.specs.Name.{Agrees, Grows};
+ghost use Rattle.fpc_terms.specs.Name.{Agrees, Grows, AreDifferent};
 ghost use Rattle.fpc_terms.specs.Adding.{AddsOnly};
 ghost use Rattle.polarised_formulas.specs.Adding.{IsPartIn};
 ghost use Rattle.explicit_form.specs.LineStanding.{IsPlainWord};
@@ -87,7 +87,11 @@ impl StepReader {
         let phase = self.phase;
         match phase {
             Phase::Faulty(fault) => Err(self.fail(fault)),
-            _ => self.feed_line(names, bytes),
+            _ => {
+                let fed = self.feed_line(names, bytes);
+                names.distinct();
+                fed
+            }
         }
     }
 
@@ -131,7 +135,7 @@ impl StepReader {
     /// Takes bytes where nothing was told of the earlier ones.
     fn feed_line(&mut self, names: &mut Names, bytes: &[u8]) -> Result<usize, StepFault>
         ensures grows { Grows names.old names.new }
-        ensures only { (logic : Logic) (before : List ℕ) → StandsBehind logic names.old before self.old → AddsOnly (IsPartIn before (line_in bytes.now)) names.old names.new }
+        ensures only { (logic : Logic) (before : List ℕ) → AreDifferent names.new → StandsBehind logic names.old before self.old → AddsOnly (IsPartIn before (line_in bytes.now)) names.old names.new }
         ensures line { (number : List ℕ → ℕ) (logic : Logic) (st : State) → Agrees number names.new → IsAt logic st self.old
             → IsLine number logic st self.old.at bytes.now result self.new }
         ensures count { IfOk result (λ n. n ≡ line_length bytes.now) }
@@ -141,7 +145,6 @@ impl StepReader {
     {
         self.step = None;
         for (i, b) in bytes.iter().enumerate() {
-            names.distinct();
             match self.byte(names, *b) {
                 Ok(()) => {}
                 Err(fault) => return Err(fault),

@@ -52,25 +52,26 @@ pub record Place (number : List ℕ → ℕ) (logic : Logic) (bytes : List ℕ) 
 -- the first i bytes are taken
 pub record ReadsTo (old names : List (List ℕ)) (logic : Logic) (bytes : List ℕ) (r : PlainReader) (i : ℕ) : Type 0 where
   pub grown : Grows old names
-  pub only : AddsOnly (IsPartOf bytes) old names
+  pub only : AreDifferent names → AddsOnly (IsPartOf bytes) old names
   pub few : i ≤ 67108864
   pub place : (number : List ℕ → ℕ) → Agrees number names → Place number logic bytes r i
 
 pub reads-none : (names : List (List ℕ)) (logic : Logic) (bytes : List ℕ) (r : PlainReader) → Stands logic (at_formula []) r → ReadsTo names names logic bytes r 0
 reads-none names logic bytes r h = record {
   grown = λ k text e. e;
-  only = AddsOnly-same (IsPartOf bytes) names;
+  only = λ differ. AddsOnly-same (IsPartOf bytes) names;
   few = omega arith;
   place = λ number agrees. record { q = at_formula []; stands = h; wanted = tt; same = refl; ends = ends-empty (take 0 bytes) };
 }
 
 -- what was added before a byte, and with it
-pub reads-added : (old names now : List (List ℕ)) (logic : Logic) (bytes : List ℕ) (r : PlainReader) (i : ℕ) → ReadsTo old names logic bytes r i → AreDifferent names
-    → AddsOnly (IsText r.word.items) names now → AddsOnly (IsPartOf bytes) old now
-reads-added old names now logic bytes r i reads differ added =
+pub reads-added : (old names now : List (List ℕ)) (logic : Logic) (bytes : List ℕ) (r : PlainReader) (i : ℕ) → ReadsTo old names logic bytes r i → Grows names now
+    → AddsOnly (IsText r.word.items) names now → AreDifferent now → AddsOnly (IsPartOf bytes) old now
+reads-added old names now logic bytes r i reads grows added differs =
+    let differ : AreDifferent names = λ j k text a b. differs j k text (grows j text a) (grows k text b) in
     let p = reads.place (index_in names) (Agrees-index_in names differ) in
     let part : IsPartOf bytes r.word.items = (take i bytes, drop i bytes, (take-append-drop i bytes, subst (EndsWith (take i bytes)) (sym p.stands.word) p.ends)) in
-    AddsOnly-then (IsPartOf bytes) old names now reads.only (AddsOnly-wider (IsText r.word.items) (IsPartOf bytes) names now (λ other e. subst (IsPartOf bytes) (sym e) part) added)
+    AddsOnly-then (IsPartOf bytes) old names now (reads.only differ) (AddsOnly-wider (IsText r.word.items) (IsPartOf bytes) names now (λ other e. subst (IsPartOf bytes) (sym e) part) added)
 
 take-next : (i b : ℕ) (bytes rest : List ℕ) → drop i bytes ≡ b ∷ rest → take (suc i) bytes ≡ take i bytes ++ b ∷ []
 take-next zero b bytes rest e = ap (take 1) e
@@ -118,9 +119,9 @@ module _ (old names now : List (List ℕ)) (logic : Logic) (bytes : List ℕ) (r
   from number agrees p = p.same ∙ ap (outcome number logic (on p.q) i) here
 
   pub reads-on : ((number : List ℕ → ℕ) (logic : Logic) (q : Reading) → Agrees number now → Stands logic q r → IsTaken logic q i (Ok tt) s (next number logic q b))
-      → i < 67108864 → drop (suc i) bytes ≡ rest → AreDifferent names → AddsOnly (IsText r.word.items) names now → ReadsTo old now logic bytes s (suc i)
-  reads-on taken small after differ added =
-      record { grown = Grows-trans old names now reads.grown grows; only = reads-added old names now logic bytes r i reads differ added; few = omega arith; place = by }
+      → i < 67108864 → drop (suc i) bytes ≡ rest → AddsOnly (IsText r.word.items) names now → ReadsTo old now logic bytes s (suc i)
+  reads-on taken small after added =
+      record { grown = Grows-trans old names now reads.grown grows; only = reads-added old names now logic bytes r i reads grows added; few = omega arith; place = by }
     where
       by : (number : List ℕ → ℕ) → Agrees number now → Place number logic bytes s (suc i)
       by number agrees =

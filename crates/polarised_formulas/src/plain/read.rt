@@ -1,6 +1,6 @@
 //! Whole texts in plain form.
 ghost use Rattle.std.specs.Prelude.{◌≡◌, ℕ, ◌<◌, ◌≤◌, List, length, IfOk, OnOk};
-ghost use Rattle.fpc_terms.specs.Name.{Agrees, Grows};
+ghost use Rattle.fpc_terms.specs.Name.{Agrees, Grows, AreDifferent};
 ghost use Rattle.fpc_terms.specs.Adding.{AddsOnly, IsText};
 ghost use Rattle.polarised_formulas.specs.Adding.{IsPartOf};
 ghost use Rattle.polarised_formulas.specs.declared.logic.Logic.{Logic};
@@ -54,18 +54,16 @@ fn read_bytes(
     bytes: &[u8],
 ) -> Result<Formula, ParseRefusal>
     ensures grows { Grows names.old names.new }
-    ensures only { AddsOnly (IsPartOf bytes.now) names.old names.new }
+    ensures only { AreDifferent names.new → AddsOnly (IsPartOf bytes.now) names.old names.new }
     ensures outcome { IsAnswer names.new logic bytes.now result }
 {
     let mut reader = PlainReader::new(alloc, logic);
     for (at, b) in bytes.iter().enumerate() {
-        names.distinct();
         match take(&mut reader, names, at, *b) {
             Ok(()) => {}
             Err(refusal) => return Err(refusal),
         }
     }
-    names.distinct();
     end(&mut reader, names, bytes.len())
 }
 

@@ -15,14 +15,14 @@ returns-then-b-eq10-clause-line c =
 pub loop-i-preserved : goal.loop-i-preserved
 loop-i-preserved c =
     inside-next c.args.names.now c.loop-i.names c.byte.new.names c.args.self.now c.loop-i.self c.byte.new.self c.args.bytes.now c.loop-i.i (slice_index_or c.args.bytes.now c.loop-i.i 0) c.loop-i.invariant
-    c.loop-i-test.true refl c.in-Ok.ensures.grows c.in-Ok.ensures.taken c.in-Ok.ensures.place c.if-b-eq10.false c.distinct.ensures c.in-Ok.ensures.only
+    c.loop-i-test.true refl c.in-Ok.ensures.grows c.in-Ok.ensures.taken c.in-Ok.ensures.place c.if-b-eq10.false c.in-Ok.ensures.only
 
 pub returns-in-Err-clause-only : goal.returns-in-Err-clause-only
 returns-in-Err-clause-only c =
     added c.args.names.now c.loop-i.names c.byte.new.names c.args.self.now c.loop-i.self c.byte.new.self c.args.bytes.now c.loop-i.i (slice_index_or c.args.bytes.now c.loop-i.i 0) c.loop-i.invariant
-    c.loop-i-test.true refl c.in-Err.ensures.grows c.distinct.ensures c.in-Err.ensures.only
+    c.loop-i-test.true refl c.in-Err.ensures.grows c.in-Err.ensures.only
 
 pub returns-then-b-eq10-clause-only : goal.returns-then-b-eq10-clause-only
 returns-then-b-eq10-clause-only c =
     added c.args.names.now c.loop-i.names c.byte.new.names c.args.self.now c.loop-i.self c.byte.new.self c.args.bytes.now c.loop-i.i (slice_index_or c.args.bytes.now c.loop-i.i 0) c.loop-i.invariant
-    c.loop-i-test.true refl c.in-Ok.ensures.grows c.distinct.ensures c.in-Ok.ensures.only
+    c.loop-i-test.true refl c.in-Ok.ensures.grows c.in-Ok.ensures.only

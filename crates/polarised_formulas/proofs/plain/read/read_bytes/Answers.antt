@@ -12,7 +12,7 @@ pub loop-at-preserved : goal.loop-at-preserved
 loop-at-preserved c =
     let e : c.loop-at.at + 1 ≡ suc c.loop-at.at = omega arith in
     rw e (reads-on c.args.names.now c.loop-at.names c.take.new.names c.args.logic c.args.bytes.now c.loop-at.reader c.take.new.reader c.loop-at.at _ _ c.loop-at.invariant c.in-Ok.ensures.grows
-    (drop-cons c.args.bytes.now c.loop-at.at 0 c.loop-at-test.true) c.in-Ok.ensures.taken c.in-Ok.ensures.small refl c.distinct.ensures c.in-Ok.ensures.only)
+    (drop-cons c.args.bytes.now c.loop-at.at 0 c.loop-at-test.true) c.in-Ok.ensures.taken c.in-Ok.ensures.small refl c.in-Ok.ensures.only)
 
 pub returns-clause-outcome : goal.returns-clause-outcome
 returns-clause-outcome c =
@@ -24,8 +24,8 @@ returns-clause-outcome c =
 
 pub returns-in-Err-clause-only : goal.returns-in-Err-clause-only
 returns-in-Err-clause-only c =
-    reads-added c.args.names.now c.loop-at.names c.take.new.names c.args.logic c.args.bytes.now c.loop-at.reader c.loop-at.at c.loop-at.invariant c.distinct.ensures c.in-Err.ensures.only
+    reads-added c.args.names.now c.loop-at.names c.take.new.names c.args.logic c.args.bytes.now c.loop-at.reader c.loop-at.at c.loop-at.invariant c.in-Err.ensures.grows c.in-Err.ensures.only
 
 pub returns-clause-only : goal.returns-clause-only
 returns-clause-only c =
-    reads-added c.args.names.now c.loop-at.names c.end.new.names c.args.logic c.args.bytes.now c.loop-at.reader c.loop-at.at c.loop-at.invariant c.distinct-2.ensures c.end.ensures.only
+    reads-added c.args.names.now c.loop-at.names c.end.new.names c.args.logic c.args.bytes.now c.loop-at.reader c.loop-at.at c.loop-at.invariant c.end.ensures.grows c.end.ensures.only
