@@ -1,24 +1,21 @@
 -- A certificate that is being checked.
-use Rattle.std.specs.Prelude.{◌≡◌, ◌≢◌, ◌⊎◌, ℕ, ◌+◌, ◌≤◌, Bool, true, false, List, [], ◌++◌, length, take, Option, Result, Ok, Err}
-use Rattle.fpc_base.specs.Outside.{Rose, TakesFront, IsAtEnd}
+use Rattle.std.specs.Prelude.{◌≡◌, ◌≢◌, ◌⊎◌, ℕ, ◌+◌, ◌≤◌, Bool, true, false, List, [], ◌++◌, length, take, Result, Ok, Err}
 use Rattle.fpc_terms.specs.Name.{Agrees}
 use Rattle.polarised_formulas.specs.declared.logic.Logic.TheVariants.{Lkf}
 use Rattle.polarised_formulas.specs.Formula.{Formula}
-use Rattle.lkf_rules.specs.Sequent.{Levelled}
-use Rattle.lkf_rules.specs.Derivation.{IsDerivable}
-use Rattle.explicit_form.specs.StepReading.{State, start, run}
+use Rattle.explicit_form.specs.StepReading.{start, run}
 use Rattle.explicit_form.specs.StepLimits.{most_bytes}
 use Rattle.explicit_form.specs.Feeding.{HasRead, is_whole}
 use Rattle.explicit_form.specs.declared.step_reader.StepReader.{StepReader}
 use Rattle.explicit_form.specs.declared.step_reader.StepFault.{StepFault}
 use Rattle.explicit_form.specs.declared.step_reader.StepFault.TheVariants.{Refused as ReaderRefused, OutOfMemory as ReaderNoMemory}
 use Rattle.explicit_kernel.specs.Pending.{AreLow}
-use Rattle.explicit_kernel.specs.Progress.{Follows, IsUnfit, HasSpelling}
-use Rattle.explicit_kernel.specs.Judgment.{Course, going, judged, accepted, rejected, refused, course_of, at_end, judgment}
+use Rattle.explicit_kernel.specs.Progress.{Follows, IsUnfit}
+use Rattle.explicit_kernel.specs.Judgment.{going, judged, accepted, rejected, refused, course_of, judgment}
 use Rattle.explicit_kernel.specs.declared.verify.Verdict.{Verdict}
-use Rattle.explicit_kernel.specs.declared.verify.Verdict.TheVariants.{Accepted, Rejected}
+use Rattle.explicit_kernel.specs.declared.verify.Verdict.TheVariants.{Rejected}
 use Rattle.explicit_kernel.specs.declared.verify.VerifyRefusal.{VerifyRefusal}
-use Rattle.explicit_kernel.specs.declared.verify.VerifyRefusal.TheVariants.{Refused, ReadFault, OutOfMemory}
+use Rattle.explicit_kernel.specs.declared.verify.VerifyRefusal.TheVariants.{Refused, OutOfMemory}
 use Rattle.explicit_kernel.specs.declared.check.Check as check
 use Rattle.explicit_kernel.specs.declared.check.Stop.{Stop}
 use Rattle.explicit_kernel.specs.declared.check.Stop.TheVariants.{Rejected as StopsRejected, Refused as StopsRefused, OutOfMemory as StopsNoMemory}

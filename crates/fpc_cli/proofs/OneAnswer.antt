@@ -241,15 +241,15 @@ module _ (numbers : DontMatter) (p e : List ℕ) (content : List ℕ → Content
         let agrees = Agrees-number_in (length v.names) v.names v.different in
         let in_e : MayHold (content e) eb = subst (λ c. MayHold c eb) (sym held') refl in
         let same : v.spelled.read.written ≡ record { logic = Lkf; formula = w } =
-            problem-read_once (items_of pb) v.spelled.read.written (record { logic = Lkf; formula = w }) (reads-same (content p) v.spelled.bytes pb v.spelled.read.written told v.spelled.held in_file v.spelled.read.reads) is.reads
+        problem-read_once (items_of pb) v.spelled.read.written (record { logic = Lkf; formula = w }) (reads-same (content p) v.spelled.bytes pb v.spelled.read.written told v.spelled.held in_file v.spelled.read.reads) is.reads
         in
         let formula : v.spelled.read.written.formula ≡ w = ap (λ (x : WrittenProblem). x.formula) same in
         subst (P (course_of n v.goal v.taken) (length v.taken))
         (
-          ap (judgment n v.goal) (same-bytes (content e) (v.taken ++ left_of left) eb told' v.held in_e)
-          ∙ ap (λ g. judgment n g eb) (v.spelled.read.meant n agrees)
-          ∙ numbers (text_in (length v.names) v.names) text n number (GivesBack-number_in (length v.names) v.names (let l : length v.names ≤ length v.names = omega arith in l)) back v.spelled.read.written.formula (begin-as-names v.names (content p) v.goal v.spelled) eb
-          ∙ ap (λ f. judgment number (formula_meant number [] [] f) eb) formula
+        ap (judgment n v.goal) (same-bytes (content e) (v.taken ++ left_of left) eb told' v.held in_e)
+        ∙ ap (λ g. judgment n g eb) (v.spelled.read.meant n agrees)
+        ∙ numbers (text_in (length v.names) v.names) text n number (GivesBack-number_in (length v.names) v.names (let l : length v.names ≤ length v.names = omega arith in l)) back v.spelled.read.written.formula (begin-as-names v.names (content p) v.goal v.spelled) eb
+        ∙ ap (λ f. judgment number (formula_meant number [] [] f) eb) formula
         )
         (v.judged n agrees)
 
