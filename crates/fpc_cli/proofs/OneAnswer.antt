@@ -27,7 +27,7 @@ use Rattle.fpc_cli.specs.declared.answer.Answer.{Answer}
 use Rattle.fpc_cli.specs.declared.answer.Answer.TheVariants.{Accepted, Rejected, Refused, Usage, ReadFault, OutOfMemory}
 use Rattle.fpc_cli.specs.declared.answer.Role.TheVariants.{Problem, Definition, Certificate, Explicit, Atom, Native}
 use Rattle.fpc_cli.specs.Command.{verify, usage}
-use Rattle.fpc_cli.specs.Run.{MayHold, MayBeTooLarge, SpellsGoal, IsGood, first_place, IsNotBuilt, IsProblemRefused, left_of, IsVerified, IsAccepted, IsRejected, IsRefused, IsCaused}
+use Rattle.fpc_cli.specs.Run.{MayHold, MayBeTooLarge, SpellsGoal, IsGood, first_place, IsNotBuilt, IsProblemRefused, left_of, IsVerified, Accepts, Rejects, Refuses, IsCaused}
 use Rattle.fpc_cli.specs.OneAnswer.{IsKnown, IsFound, HasOneAnswer}
 use Rattle.fpc_cli.specs.Due.{IsGiven, IsProblemOf, answer_due, JudgmentIsGiven, RefusalIsGiven, MissingIsGiven}
 
@@ -151,9 +151,9 @@ module _ (numbers : DontMatter) (p e : List ℕ) (content : List ℕ → Content
 
   -- what an answer to `verify` is: a verdict on the certificate, a refusal of the problem, or that a file is missing
   data View (left : Option (List ℕ)) : Answer → Type 0 where
-    accepts : {n : ℕ} → IsVerified (content p) (content e) left (IsAccepted n) → content e ≢ missing → View left (Accepted n)
-    rejects : {k : ℕ} → IsVerified (content p) (content e) left (IsRejected k) → content e ≢ missing → View left (Rejected k)
-    refuses : {r : Refusal} → IsVerified (content p) (content e) left (IsRefused r) → content e ≢ missing → View left (Refused Explicit r)
+    accepts : {n : ℕ} → IsVerified (content p) (content e) left (Accepts n) → content e ≢ missing → View left (Accepted n)
+    rejects : {k : ℕ} → IsVerified (content p) (content e) left (Rejects k) → content e ≢ missing → View left (Rejected k)
+    refuses : {r : Refusal} → IsVerified (content p) (content e) left (Refuses r) → content e ≢ missing → View left (Refused Explicit r)
     no_problem : {r : Refusal} → IsProblemRefused (content p) r → content p ≢ missing → View left (Refused Problem r)
     no_file : (content p ≡ missing) ⊎ (IsGood (content p) × (content e ≡ missing)) → View left ReadFault
 
@@ -191,29 +191,29 @@ module _ (numbers : DontMatter) (p e : List ℕ) (content : List ℕ → Content
   bad-found r h there (inr m) = good-refused m.0 r h
 
   one : (left left' : Option (List ℕ)) (a b : Answer) → View left a → View left' b → a ≡ b
-  one left left' _ _ (accepts {n = n} v there) (accepts {n = k} w there') = let s = shared left left' (IsAccepted n) (IsAccepted k) v w in let x = s.1.0 in let y = s.1.1 in let same : n ≡ k = cc in ap Accepted same
-  one left left' _ _ (accepts {n = n} v there) (rejects {k = k} w there') = let s = shared left left' (IsAccepted n) (IsRejected k) v w in let x = s.1.0 in let y = s.1.1.1.0 in let never : ⊥ = cc in absurd never
-  one left left' _ _ (accepts {n = n} v there) (refuses {r = r} w there') = let s = shared left left' (IsAccepted n) (IsRefused r) v w in let x = s.1.0 in let y = s.1.1.1.0 in let never : ⊥ = cc in absurd never
-  one left left' _ _ (accepts {n = n} v there) (no_problem {r = r} h there') = absurd (good-refused (good left (IsAccepted n) v) r h)
-  one left left' _ _ (accepts {n = n} v there) (no_file m) = absurd (good-found (good left (IsAccepted n) v) there m)
-  one left left' _ _ (rejects {k = n} v there) (accepts {n = k} w there') = let s = shared left left' (IsRejected n) (IsAccepted k) v w in let x = s.1.0.1.0 in let y = s.1.1 in let never : ⊥ = cc in absurd never
-  one left left' _ _ (rejects {k = n} v there) (rejects {k = k} w there') = let s = shared left left' (IsRejected n) (IsRejected k) v w in let x = s.1.0.1.0 in let y = s.1.1.1.0 in let same : n ≡ k = cc in ap Rejected same
-  one left left' _ _ (rejects {k = n} v there) (refuses {r = r} w there') = let s = shared left left' (IsRejected n) (IsRefused r) v w in let x = s.1.0.1.0 in let y = s.1.1.1.0 in let never : ⊥ = cc in absurd never
-  one left left' _ _ (rejects {k = n} v there) (no_problem {r = r} h there') = absurd (good-refused (good left (IsRejected n) v) r h)
-  one left left' _ _ (rejects {k = n} v there) (no_file m) = absurd (good-found (good left (IsRejected n) v) there m)
-  one left left' _ _ (refuses {r = r} v there) (accepts {n = k} w there') = let s = shared left left' (IsRefused r) (IsAccepted k) v w in let x = s.1.0.1.0 in let y = s.1.1 in let never : ⊥ = cc in absurd never
-  one left left' _ _ (refuses {r = r} v there) (rejects {k = k} w there') = let s = shared left left' (IsRefused r) (IsRejected k) v w in let x = s.1.0.1.0 in let y = s.1.1.1.0 in let never : ⊥ = cc in absurd never
-  one left left' _ _ (refuses {r = r} v there) (refuses {r = t} w there') = let s = shared left left' (IsRefused r) (IsRefused t) v w in let x = s.1.0.1.0 in let y = s.1.1.1.0 in let same : r ≡ t = cc in ap (Refused Explicit) same
-  one left left' _ _ (refuses {r = r} v there) (no_problem {r = t} h there') = absurd (good-refused (good left (IsRefused r) v) t h)
-  one left left' _ _ (refuses {r = r} v there) (no_file m) = absurd (good-found (good left (IsRefused r) v) there m)
-  one left left' _ _ (no_problem {r = r} h there) (accepts {n = k} w there') = absurd (good-refused (good left' (IsAccepted k) w) r h)
-  one left left' _ _ (no_problem {r = r} h there) (rejects {k = k} w there') = absurd (good-refused (good left' (IsRejected k) w) r h)
-  one left left' _ _ (no_problem {r = r} h there) (refuses {r = t} w there') = absurd (good-refused (good left' (IsRefused t) w) r h)
+  one left left' _ _ (accepts {n = n} v there) (accepts {n = k} w there') = let s = shared left left' (Accepts n) (Accepts k) v w in let x = s.1.0 in let y = s.1.1 in let same : n ≡ k = cc in ap Accepted same
+  one left left' _ _ (accepts {n = n} v there) (rejects {k = k} w there') = let s = shared left left' (Accepts n) (Rejects k) v w in let x = s.1.0 in let y = s.1.1.1.0 in let never : ⊥ = cc in absurd never
+  one left left' _ _ (accepts {n = n} v there) (refuses {r = r} w there') = let s = shared left left' (Accepts n) (Refuses r) v w in let x = s.1.0 in let y = s.1.1.1.0 in let never : ⊥ = cc in absurd never
+  one left left' _ _ (accepts {n = n} v there) (no_problem {r = r} h there') = absurd (good-refused (good left (Accepts n) v) r h)
+  one left left' _ _ (accepts {n = n} v there) (no_file m) = absurd (good-found (good left (Accepts n) v) there m)
+  one left left' _ _ (rejects {k = n} v there) (accepts {n = k} w there') = let s = shared left left' (Rejects n) (Accepts k) v w in let x = s.1.0.1.0 in let y = s.1.1 in let never : ⊥ = cc in absurd never
+  one left left' _ _ (rejects {k = n} v there) (rejects {k = k} w there') = let s = shared left left' (Rejects n) (Rejects k) v w in let x = s.1.0.1.0 in let y = s.1.1.1.0 in let same : n ≡ k = cc in ap Rejected same
+  one left left' _ _ (rejects {k = n} v there) (refuses {r = r} w there') = let s = shared left left' (Rejects n) (Refuses r) v w in let x = s.1.0.1.0 in let y = s.1.1.1.0 in let never : ⊥ = cc in absurd never
+  one left left' _ _ (rejects {k = n} v there) (no_problem {r = r} h there') = absurd (good-refused (good left (Rejects n) v) r h)
+  one left left' _ _ (rejects {k = n} v there) (no_file m) = absurd (good-found (good left (Rejects n) v) there m)
+  one left left' _ _ (refuses {r = r} v there) (accepts {n = k} w there') = let s = shared left left' (Refuses r) (Accepts k) v w in let x = s.1.0.1.0 in let y = s.1.1 in let never : ⊥ = cc in absurd never
+  one left left' _ _ (refuses {r = r} v there) (rejects {k = k} w there') = let s = shared left left' (Refuses r) (Rejects k) v w in let x = s.1.0.1.0 in let y = s.1.1.1.0 in let never : ⊥ = cc in absurd never
+  one left left' _ _ (refuses {r = r} v there) (refuses {r = t} w there') = let s = shared left left' (Refuses r) (Refuses t) v w in let x = s.1.0.1.0 in let y = s.1.1.1.0 in let same : r ≡ t = cc in ap (Refused Explicit) same
+  one left left' _ _ (refuses {r = r} v there) (no_problem {r = t} h there') = absurd (good-refused (good left (Refuses r) v) t h)
+  one left left' _ _ (refuses {r = r} v there) (no_file m) = absurd (good-found (good left (Refuses r) v) there m)
+  one left left' _ _ (no_problem {r = r} h there) (accepts {n = k} w there') = absurd (good-refused (good left' (Accepts k) w) r h)
+  one left left' _ _ (no_problem {r = r} h there) (rejects {k = k} w there') = absurd (good-refused (good left' (Rejects k) w) r h)
+  one left left' _ _ (no_problem {r = r} h there) (refuses {r = t} w there') = absurd (good-refused (good left' (Refuses t) w) r h)
   one left left' _ _ (no_problem {r = r} h there) (no_problem {r = t} k there') = ap (Refused Problem) (refused-once (content p) r t told h k)
   one left left' _ _ (no_problem {r = r} h there) (no_file m) = absurd (bad-found r h there m)
-  one left left' _ _ (no_file m) (accepts {n = k} w there') = absurd (good-found (good left' (IsAccepted k) w) there' m)
-  one left left' _ _ (no_file m) (rejects {k = k} w there') = absurd (good-found (good left' (IsRejected k) w) there' m)
-  one left left' _ _ (no_file m) (refuses {r = t} w there') = absurd (good-found (good left' (IsRefused t) w) there' m)
+  one left left' _ _ (no_file m) (accepts {n = k} w there') = absurd (good-found (good left' (Accepts k) w) there' m)
+  one left left' _ _ (no_file m) (rejects {k = k} w there') = absurd (good-found (good left' (Rejects k) w) there' m)
+  one left left' _ _ (no_file m) (refuses {r = t} w there') = absurd (good-found (good left' (Refuses t) w) there' m)
   one left left' _ _ (no_file m) (no_problem {r = t} k there') = absurd (bad-found t k there' m)
   one left left' _ _ (no_file m) (no_file m') = refl
 
@@ -254,9 +254,9 @@ module _ (numbers : DontMatter) (p e : List ℕ) (content : List ℕ → Content
         (v.judged n agrees)
 
     due : (eb : List ℕ) → content e ≡ holds eb → (text : ℕ → List ℕ) (number : List ℕ → ℕ) → GivesBack text number → (left : Option (List ℕ)) (a : Answer) → View left a → a ≡ answer_due (judgment number (formula_meant number [] [] w) eb)
-    due eb h text number back left _ (accepts {n = n} v x) = sym (ap answer_due (judged-so eb h text number back left (IsAccepted n) v))
-    due eb h text number back left _ (rejects {k = k} v x) = sym (ap answer_due (judged-so eb h text number back left (IsRejected k) v).1.0)
-    due eb h text number back left _ (refuses {r = r} v x) = sym (ap answer_due (judged-so eb h text number back left (IsRefused r) v).1.0)
+    due eb h text number back left _ (accepts {n = n} v x) = sym (ap answer_due (judged-so eb h text number back left (Accepts n) v))
+    due eb h text number back left _ (rejects {k = k} v x) = sym (ap answer_due (judged-so eb h text number back left (Rejects k) v).1.0)
+    due eb h text number back left _ (refuses {r = r} v x) = sym (ap answer_due (judged-so eb h text number back left (Refuses r) v).1.0)
     due eb h text number back left _ (no_problem {r = r} k x) = absurd (not-refused r k)
     due eb h text number back left _ (no_file (inl m)) = absurd (there m)
     due eb h text number back left _ (no_file (inr (g, m))) = let never : holds eb ≡ missing = sym h ∙ m in cc
@@ -269,16 +269,16 @@ module _ (numbers : DontMatter) (p e : List ℕ) (content : List ℕ → Content
     no-certificate m left _ (no_file h) = refl
 
   no-problem : content p ≡ missing → (left : Option (List ℕ)) (a : Answer) → View left a → a ≡ ReadFault
-  no-problem m left _ (accepts {n = n} v x) = absurd (good-there (good left (IsAccepted n) v) m)
-  no-problem m left _ (rejects {k = k} v x) = absurd (good-there (good left (IsRejected k) v) m)
-  no-problem m left _ (refuses {r = r} v x) = absurd (good-there (good left (IsRefused r) v) m)
+  no-problem m left _ (accepts {n = n} v x) = absurd (good-there (good left (Accepts n) v) m)
+  no-problem m left _ (rejects {k = k} v x) = absurd (good-there (good left (Rejects k) v) m)
+  no-problem m left _ (refuses {r = r} v x) = absurd (good-there (good left (Refuses r) v) m)
   no-problem m left _ (no_problem k x) = absurd (x m)
   no-problem m left _ (no_file h) = refl
 
   refusal-due : (bytes : List ℕ) (r : Refusal) → content p ≡ holds bytes → IsProblemRefused (content p) r → (left : Option (List ℕ)) (a : Answer) → View left a → a ≡ Refused Problem r
-  refusal-due bytes r h k left _ (accepts {n = n} v x) = absurd (good-refused (good left (IsAccepted n) v) r k)
-  refusal-due bytes r h k left _ (rejects {k = m} v x) = absurd (good-refused (good left (IsRejected m) v) r k)
-  refusal-due bytes r h k left _ (refuses {r = s} v x) = absurd (good-refused (good left (IsRefused s) v) r k)
+  refusal-due bytes r h k left _ (accepts {n = n} v x) = absurd (good-refused (good left (Accepts n) v) r k)
+  refusal-due bytes r h k left _ (rejects {k = m} v x) = absurd (good-refused (good left (Rejects m) v) r k)
+  refusal-due bytes r h k left _ (refuses {r = s} v x) = absurd (good-refused (good left (Refuses s) v) r k)
   refusal-due bytes r h k left _ (no_problem {r = s} l x) = ap (Refused Problem) (refused-once (content p) s r told l k)
   refusal-due bytes r h k left _ (no_file (inl m)) = let never : holds bytes ≡ missing = sym h ∙ m in cc
   refusal-due bytes r h k left _ (no_file (inr (g, m))) = absurd (good-refused g r k)

@@ -14,9 +14,10 @@ use Rattle.explicit_kernel.specs.declared.verify.VerifyRefusal.{VerifyRefusal}
 use Rattle.explicit_kernel.specs.declared.verify.VerifyRefusal.TheVariants.{Refused as RefusedAt, ReadFault as Fault, OutOfMemory as NoMemory}
 use Rattle.explicit_kernel.proofs.JudgmentLaws.{judgment_stays}
 use Rattle.fpc_cli.specs.declared.answer.Answer.{Answer}
-use Rattle.fpc_cli.specs.declared.answer.Role.TheVariants.{Explicit}
-use Rattle.fpc_cli.specs.Command.{verify}
-use Rattle.fpc_cli.specs.Run.{HasFilesTo, HasOpenedTo, MayHold, SpellsGoal, left_of, IsVerified, IsAccepted, IsRejected, IsRefused, IsUndecided, IsCaused, IsAnswerOf}
+use Rattle.fpc_cli.specs.declared.answer.Answer.TheVariants.{Accepted, Rejected, Refused, Usage, ReadFault, OutOfMemory}
+use Rattle.fpc_cli.specs.declared.answer.Role.TheVariants.{Problem, Definition, Certificate, Explicit, Atom, Native}
+use Rattle.fpc_cli.specs.Command.{Asked, verify, usage}
+use Rattle.fpc_cli.specs.Run.{HasFilesTo, HasOpenedTo, HasOpenedSome, MayHold, SpellsGoal, left_of, IsVerified, Accepts, Rejects, Refuses, IsUndecided, IsCaused, IsAnswerOf}
 
 pub from-ok : {T E P : Type 0} (r : Result T E) → is_err r ≡ false → OnOk r P → P
 from-ok (Ok t) e p = p
@@ -68,14 +69,14 @@ module _ (names : List (List ℕ)) (differ : AreDifferent names) (goal : Formula
   whole : (bytes : List ℕ) (number : List ℕ → ℕ) (j : Judgment) → IsAtEnd new → judgment number goal bytes ≡ j → judgment number goal (bytes ++ left_of new) ≡ j
   whole bytes number j e h = ap (judgment number goal) (ap (λ l. bytes ++ l) (nothing-left new e) ∙ append-nil bytes) ∙ h
 
-  pub is-accepted : (n : ℕ) → IsJudged names goal old new before now (Ok (AcceptedBy n)) → IsVerified problem explicit new (IsAccepted n)
-  is-accepted n h = verified-so (Ok (AcceptedBy n)) h (IsAccepted n) (λ number agrees. let s = h.shown number agrees in whole h.bytes number (accepted n) s.1 s.0)
+  pub is-accepted : (n : ℕ) → IsJudged names goal old new before now (Ok (AcceptedBy n)) → IsVerified problem explicit new (Accepts n)
+  is-accepted n h = verified-so (Ok (AcceptedBy n)) h (Accepts n) (λ number agrees. let s = h.shown number agrees in whole h.bytes number (accepted n) s.1 s.0)
 
-  pub is-rejected : (k : ℕ) → IsJudged names goal old new before now (Ok (RejectedAt k)) → IsVerified problem explicit new (IsRejected k)
-  is-rejected k h = verified-so (Ok (RejectedAt k)) h (IsRejected k) (λ number agrees. let s = h.shown number agrees in (s.0, (judgment_stays number goal h.bytes (left_of new) (rejected k s.0) s.1.0, s.1.1)))
+  pub is-rejected : (k : ℕ) → IsJudged names goal old new before now (Ok (RejectedAt k)) → IsVerified problem explicit new (Rejects k)
+  is-rejected k h = verified-so (Ok (RejectedAt k)) h (Rejects k) (λ number agrees. let s = h.shown number agrees in (s.0, (judgment_stays number goal h.bytes (left_of new) (rejected k s.0) s.1.0, s.1.1)))
 
-  pub is-refused : (r : Refusal) → IsJudged names goal old new before now (Err (RefusedAt r)) → IsVerified problem explicit new (IsRefused r)
-  is-refused r h = verified-so (Err (RefusedAt r)) h (IsRefused r) (λ number agrees.
+  pub is-refused : (r : Refusal) → IsJudged names goal old new before now (Err (RefusedAt r)) → IsVerified problem explicit new (Refuses r)
+  is-refused r h = verified-so (Err (RefusedAt r)) h (Refuses r) (λ number agrees.
       let s = h.shown number agrees in (
         s.0,
         (
@@ -107,8 +108,27 @@ caused-so known names grows differ goal p e content spelled closed lkf o o' open
 caused-so known names grows differ goal p e content spelled closed lkf o o' opened old new start b n before now (Err Fault) answer is h right same reason there =
     let s = SpellsGoal-grows known names (content p) goal grows spelled in
     rw is ((λ u. cc), inl (reason, inr (inr (opened, is-undecided names differ goal (content p) (content e) s closed lkf old new before now start h))))
-caused-so known names grows differ goal p e content spelled closed lkf o o' opened old new start b n before now (Err NoMemory) answer is h right same reason there = rw is tt
+caused-so known names grows differ goal p e content spelled closed lkf o o' opened old new start b n before now (Err NoMemory) answer is h right same reason there = rw is (inr (inr opened))
 
 -- what is said of contents and a count is said of those that are equal
 pub moved : (C D : List ℕ → Content) (b d : ℕ) (T : (List ℕ → Content) → ℕ → Type 0) → C ≡ D → b ≡ d → T C b → T D d
 moved C D b d T same count h = subst (λ (x : ℕ). T D x) count (subst (λ (X : List ℕ → Content). T X b) same h)
+
+-- whatever the answer, no file but those of the command was opened
+pub opened-some : (asked : Asked) (content : List ℕ → Content) (old new : Option (List (List ℕ))) (left : Option (List ℕ)) (before now : ℕ) (a : Answer) → IsCaused asked content old new left before now a → HasOpenedSome asked old new
+opened-some asked content old new left before now (Accepted n) (there, same, opened, judged, proved) = inr (inr opened)
+opened-some asked content old new left before now (Rejected k) (there, same, opened, judged) = inr (inr opened)
+opened-some asked content old new left before now (Refused Problem r) (there, same, opened, refusal) = inr (inl opened)
+opened-some asked content old new left before now (Refused Explicit r) (there, same, opened, refusal) = inr (inr opened)
+opened-some asked content old new left before now (Refused Definition r) (there, same, opened, refusal) = absurd opened
+opened-some asked content old new left before now (Refused Certificate r) (there, same, opened, refusal) = absurd opened
+opened-some asked content old new left before now (Refused Atom r) (there, same, opened, refusal) = absurd opened
+opened-some asked content old new left before now (Refused Native r) (there, same, opened, refusal) = absurd opened
+opened-some asked content old new left before now Usage (e, same, none) = inl none
+opened-some asked content old new left before now ReadFault (e, inl (rose, inl none)) = inl none
+opened-some asked content old new left before now ReadFault (e, inl (rose, inr (inl opened))) = inr (inl opened)
+opened-some asked content old new left before now ReadFault (e, inl (rose, inr (inr (opened, going)))) = inr (inr opened)
+opened-some (verify p f) content old new left before now ReadFault (e, inr (inl (m, none))) = inl none
+opened-some (verify p f) content old new left before now ReadFault (e, inr (inr (g, m, opened))) = inr (inl opened)
+opened-some usage content old new left before now ReadFault (e, inr misses) = absurd misses
+opened-some asked content old new left before now OutOfMemory opened = opened

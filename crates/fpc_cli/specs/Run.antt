@@ -87,16 +87,16 @@ pub record IsVerified (problem explicit : Content) (left : Option (List ℕ)) (P
   pub judged : (number : List ℕ → ℕ) → Agrees number names → P (course_of number goal taken) (length taken) (judgment number goal (taken ++ left_of left))
 
 -- the certificate is accepted
-abbrev pub IsAccepted : ℕ → Course → ℕ → Judgment → Type 0
-IsAccepted n c taken j = j ≡ accepted n
+abbrev pub Accepts : ℕ → Course → ℕ → Judgment → Type 0
+Accepts n c taken j = j ≡ accepted n
 
 -- the certificate is rejected at a step, and not too much was taken behind the place where it lies
-abbrev pub IsRejected : ℕ → Course → ℕ → Judgment → Type 0
-IsRejected k c taken j = (place : ℕ) × ((j ≡ rejected k place) × (taken ≤ place + 1 + most_ahead))
+abbrev pub Rejects : ℕ → Course → ℕ → Judgment → Type 0
+Rejects k c taken j = (place : ℕ) × ((j ≡ rejected k place) × (taken ≤ place + 1 + most_ahead))
 
 -- the certificate is refused, and not too much was taken behind the place where it lies
-abbrev pub IsRefused : Refusal → Course → ℕ → Judgment → Type 0
-IsRefused r c taken j = (fitted : ℕ) × ((j ≡ refused r fitted) × (taken ≤ r.at + 1 + most_ahead))
+abbrev pub Refuses : Refusal → Course → ℕ → Judgment → Type 0
+Refuses r c taken j = (fitted : ℕ) × ((j ≡ refused r fitted) × (taken ≤ r.at + 1 + most_ahead))
 
 -- what was taken shows neither a refusal nor a rejection
 abbrev pub IsUndecided : Course → ℕ → Judgment → Type 0
@@ -132,13 +132,17 @@ IsProblemRefused content refusal =
 -- a refusal of a file: of a problem as its grammar tells it, of a certificate as it is judged
 abbrev pub IsRefusalOf : Role → Asked → (List ℕ → Content) → Option (List ℕ) → Refusal → Type 0
 IsRefusalOf Problem (verify problem explicit) content left refusal = IsProblemRefused (content problem) refusal
-IsRefusalOf Explicit asked content left refusal = HasJudgment asked content left (IsRefused refusal)
+IsRefusalOf Explicit asked content left refusal = HasJudgment asked content left (Refuses refusal)
 IsRefusalOf _ _ content left refusal = ⊥
 
 -- some closed goal of LKF has a spelling of so many steps, and is derivable
 abbrev pub IsProved : Asked → (List ℕ → Content) → ℕ → Type 0
 IsProved (verify problem explicit) content n = (names : List (List ℕ)) × ((goal : Formula) × (SpellsGoal names (content problem) goal × IsClosed goal × IsLkf goal × HasSpelling goal n × IsDerivable goal))
 IsProved usage content n = ⊥
+
+-- no file was opened, or the problem's, or both, and no other
+abbrev pub HasOpenedSome : Asked → Option (List (List ℕ)) → Option (List (List ℕ)) → Type 0
+HasOpenedSome asked old new = (new ≡ old) ⊎ (HasOpenedTo Problem asked old new ⊎ HasOpenedTo Explicit asked old new)
 
 -- The certificate's file was not opened, or what was taken of it shows nothing.
 abbrev pub ShowsNothing : Asked → (List ℕ → Content) → Option (List (List ℕ)) → Option (List (List ℕ)) → Option (List ℕ) → Type 0
@@ -147,12 +151,12 @@ ShowsNothing asked content old new left = (new ≡ old) ⊎ (HasOpenedTo Problem
 -- An answer's cause, in what was asked, what is told of the files, which of them were opened before and are now, what is left of the one that is open, and the counts of their faults before and now.
 abbrev pub IsCaused : Asked → (List ℕ → Content) → Option (List (List ℕ)) → Option (List (List ℕ)) → Option (List ℕ) → ℕ → ℕ → Answer → Type 0
 IsCaused asked content old new left before now (Accepted n) =
-    HasFilesTo Explicit asked content × (now ≡ before) × HasOpenedTo Explicit asked old new × HasJudgment asked content left (IsAccepted n) × IsProved asked content n
-IsCaused asked content old new left before now (Rejected k) = HasFilesTo Explicit asked content × (now ≡ before) × HasOpenedTo Explicit asked old new × HasJudgment asked content left (IsRejected k)
+    HasFilesTo Explicit asked content × (now ≡ before) × HasOpenedTo Explicit asked old new × HasJudgment asked content left (Accepts n) × IsProved asked content n
+IsCaused asked content old new left before now (Rejected k) = HasFilesTo Explicit asked content × (now ≡ before) × HasOpenedTo Explicit asked old new × HasJudgment asked content left (Rejects k)
 IsCaused asked content old new left before now (Refused role refusal) = HasFilesTo role asked content × (now ≡ before) × HasOpenedTo role asked old new × IsRefusalOf role asked content left refusal
 IsCaused asked content old new left before now Usage = (asked ≡ usage) × (now ≡ before) × (new ≡ old)
 IsCaused asked content old new left before now ReadFault = (asked ≢ usage) × ((Rose before now × ShowsNothing asked content old new left) ⊎ MissesOne asked content old new)
-IsCaused asked content old new left before now OutOfMemory = Unit {0}
+IsCaused asked content old new left before now OutOfMemory = HasOpenedSome asked old new
 
 -- the sink took the whole text of the answer, or its count rose and it took a part from the front
 abbrev pub IsWritten : Answer → ℕ → ℕ → ℕ → Option (List ℕ) → Option (List ℕ) → Type 0
