@@ -9,7 +9,7 @@ ghost use Rattle.explicit_kernel.specs.Judgment.{accepted, rejected, refused, ju
 use super::*;
 use fpc_base::memory::MemSource;
 use fpc_base::refusal::Code;
-use polarised_formulas::logic::Polarity;
+use polarised_formulas::logic::{Logic, Polarity};
 use polarised_formulas::problem::read_problem;
 use std::marker::Brand;
 use std::process::Abort;
@@ -96,6 +96,8 @@ fn expect(
 ) -> Result<(), Fail> {
     let mut names = Names::new(alloc);
     let problem = read_problem(alloc, &mut names, b"lkf (p |- ~p).")?;
+    let logic = problem.logic;
+    assert_eq!(rt; logic, Logic::Lkf);
     let got = verdict_on::<Brand>(alloc, &mut names, &problem, source, Blank::new(1));
     assert_eq!(rt; got, verdict);
     Ok(())
