@@ -253,7 +253,7 @@ fn problems_are_refused_before_certificates(rt: HostRuntime) -> Result<(), Fail>
         (b"lkf (p |- lon", 3, "refused problem 2 Unexpected at 13\n"),
         (b"lkf (p & q).", 3, "refused problem 1 BadByte at 7\n"),
         (b"ljf +p.", 3, "refused problem 0 NotBuilt at 0\n"),
-        (b" ljf x", 3, "refused problem 0 NotBuilt at 1\n"),
+        (b" ljf x", 3, "refused problem 2 Unexpected at 5\n"),
         (b"% all\nlkf (p |+\t~p) .\n", 5, "read fault\n"),
     ];
     for (problem, status, text) in table {
