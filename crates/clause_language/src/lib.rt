@@ -9,6 +9,7 @@ pub mod clause_list;
 pub mod declaration;
 pub mod declaration_list;
 pub mod definition;
+mod file;
 pub mod print;
 
 pub use atom::Atom;
