@@ -25,15 +25,15 @@ clause_variables c = variables_in (clause_tokens c []) []
 abbrev pub term_variables : WrittenTerm → List (List ℕ)
 term_variables t = variables_in (term_tokens t []) []
 
--- an atom, its variables by their places among these
-abbrev pub atom_meant : (List ℕ → ℕ) → List (List ℕ) → WrittenAtom → Atom
-atom_meant number variables a = record { name = number a.text; arguments = terms_in (args_meant number (numbered (index_in variables)) a.args) }
+-- an atom, its names and variables by their numbers
+abbrev pub atom_meant : (number numbers : List ℕ → ℕ) → WrittenAtom → Atom
+atom_meant number numbers a = record { name = number a.text; arguments = terms_in (args_meant number (numbered numbers) a.args) }
 
 -- a clause, its variables by their places among its own
 abbrev pub clause_meant : (List ℕ → ℕ) → WrittenClause → Clause
 clause_meant number c = record {
-  head = atom_meant number (clause_variables c) c.head;
-  body = map (atom_meant number (clause_variables c)) c.body;
+  head = atom_meant number (index_in (clause_variables c)) c.head;
+  body = map (atom_meant number (index_in (clause_variables c))) c.body;
   variables = length (clause_variables c);
 }
 
