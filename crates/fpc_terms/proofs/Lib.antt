@@ -1,6 +1,7 @@
 pub mod Places
 pub mod Interning
 pub mod TermFacts
+pub mod ArgumentFacts
 pub mod ScopeFacts
 pub mod States
 pub mod TermLaws
