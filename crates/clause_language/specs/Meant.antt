@@ -12,11 +12,6 @@ use Rattle.clause_language.specs.declared.definition.Definition.{Definition}
 use Rattle.clause_language.specs.declared.certificate.Certificate.{Certificate}
 use Rattle.clause_language.specs.Written.{WrittenAtom, WrittenClause, WrittenItem, declaration, a_clause, WrittenDefinition, WrittenCertificate, clause_tokens}
 
--- arguments as a list of terms
-abbrev pub terms_in : Args → List Term
-terms_in no_args = []
-terms_in (arg t ts) = t ∷ terms_in ts
-
 -- the different variables of a clause, by their first occurrence in its head and body
 abbrev pub clause_variables : WrittenClause → List (List ℕ)
 clause_variables c = variables_in (clause_tokens c []) []

@@ -1,5 +1,5 @@
 //! A clause that is being read, token by token.
-ghost use Rattle.std.specs.Prelude.{◌≡◌, ℕ, List, true, false, Some, IfOk};
+ghost use Rattle.std.specs.Prelude.{◌≡◌, ◌↔◌, ℕ, List, true, false, Some, IfOk, IsTrue};
 ghost use Rattle.fpc_base.specs.Lexeme.{lexeme_as, a_sign};
 ghost use Rattle.fpc_base.specs.declared.tokens.lexeme.Sign.TheVariants.{If, Comma, Dot};
 ghost use Rattle.fpc_terms.specs.Name.{Grows, Agrees, AreDifferent};
@@ -80,6 +80,13 @@ impl ClauseReader {
             terms: TermReader::new(alloc),
             variables: VarTable::new(alloc),
         }
+    }
+
+    /// Whether the dot behind the clause was read.
+    pub fn is_ended(&self) -> bool
+        ensures { IsTrue result ↔ (self.now.mode ≡ Mode.Ended) }
+    {
+        self.mode == Mode::Ended
     }
 
     /// Takes a token. What follows a refusal means nothing.

@@ -1,5 +1,5 @@
 //! A declared formula that is being read, token by token.
-ghost use Rattle.std.specs.Prelude.{◌≡◌, ℕ, List, Err, IfOk, Some};
+ghost use Rattle.std.specs.Prelude.{◌≡◌, ◌↔◌, ℕ, List, [], Err, IfOk, Some, IsTrue};
 ghost use Rattle.fpc_base.specs.Lexeme.{lexeme_as, a_sign};
 ghost use Rattle.fpc_base.specs.declared.tokens.lexeme.Sign.TheVariants.{Dot};
 ghost use Rattle.fpc_terms.specs.Name.{Grows, Agrees};
@@ -74,22 +74,31 @@ impl<'a> DeclarationReader<'a> {
         }
     }
 
-    /// Takes a token. A name of the table `taken` is refused as the name of the formula. What follows a refusal means nothing.
-    pub fn take(
-        &mut self,
-        names: &mut Names,
-        taken: &VarTable,
-        lexeme: Lexeme<'a>,
-    ) -> Result<(), TokenRefusal>
+    /// Whether the name is to come.
+    pub fn is_at_name(&self) -> bool
+        ensures { IsTrue result ↔ (self.now.mode ≡ Mode.AtName) }
+    {
+        self.mode == Mode::AtName
+    }
+
+    /// Whether the dot behind the formula was read.
+    pub fn is_ended(&self) -> bool
+        ensures { IsTrue result ↔ (self.now.mode ≡ Mode.Ended) }
+    {
+        self.mode == Mode::Ended
+    }
+
+    /// Takes a token. Whether a formula of the same name is declared already is for the caller to see. What follows a refusal means nothing.
+    pub fn take(&mut self, names: &mut Names, lexeme: Lexeme<'a>) -> Result<(), TokenRefusal>
         requires { IsNamed lexeme }
         ensures taken { (logic : Logic) (s : DeclarationState) → HoldsDeclaration names.old logic s self.old
-            → TakesDeclaration result names.new logic (limited logic taken.now s (lexeme_as lexeme.entry)) self.new }
+            → TakesDeclaration result names.new logic (limited logic [] s (lexeme_as lexeme.entry)) self.new }
         ensures names { Grows names.old names.new }
         ensures only { AddsOnly (IsNameOf (lexeme_as lexeme.entry)) names.old names.new }
     {
         let mode = self.mode;
         match mode {
-            Mode::AtName => self.take_name(names, taken, lexeme),
+            Mode::AtName => self.take_name(names, lexeme),
             Mode::BehindName => self.take_behind_name(lexeme),
             Mode::AtParameter => self.take_parameter(lexeme),
             Mode::BehindParameter => self.take_behind_parameter(lexeme),
@@ -100,23 +109,15 @@ impl<'a> DeclarationReader<'a> {
     }
 
     /// Takes the name of the formula.
-    fn take_name(
-        &mut self,
-        names: &mut Names,
-        taken: &VarTable,
-        lexeme: Lexeme<'a>,
-    ) -> Result<(), TokenRefusal>
+    fn take_name(&mut self, names: &mut Names, lexeme: Lexeme<'a>) -> Result<(), TokenRefusal>
         requires { IsNamed lexeme }
         ensures taken { (logic : Logic) (s : DeclarationState) → HoldsDeclaration names.old logic s self.old → self.old.mode ≡ Mode.AtName
-            → TakesDeclaration result names.new logic (limited logic taken.now s (lexeme_as lexeme.entry)) self.new }
+            → TakesDeclaration result names.new logic (limited logic [] s (lexeme_as lexeme.entry)) self.new }
         ensures names { Grows names.old names.new }
         ensures only { AddsOnly (IsNameOf (lexeme_as lexeme.entry)) names.old names.new }
     {
         match lexeme {
             Lexeme::Name(text) => {
-                if taken.find(text).is_some() {
-                    return refused(Code::DuplicateFormula);
-                }
                 let name = names.intern(text)?;
                 self.name = Some(name);
                 self.mode = Mode::BehindName;
@@ -128,8 +129,8 @@ impl<'a> DeclarationReader<'a> {
 
     /// Takes the parenthesis before the parameters, or `:=`.
     fn take_behind_name(&mut self, lexeme: Lexeme<'a>) -> Result<(), TokenRefusal>
-        ensures { (names taken : List (List ℕ)) (logic : Logic) (s : DeclarationState) → HoldsDeclaration names logic s self.old → self.old.mode ≡ Mode.BehindName
-            → TakesDeclaration result names logic (limited logic taken s (lexeme_as lexeme.entry)) self.new }
+        ensures { (names : List (List ℕ)) (logic : Logic) (s : DeclarationState) → HoldsDeclaration names logic s self.old → self.old.mode ≡ Mode.BehindName
+            → TakesDeclaration result names logic (limited logic [] s (lexeme_as lexeme.entry)) self.new }
     {
         match lexeme {
             Lexeme::Sign(Sign::OpenParenthesis) => {
@@ -146,8 +147,8 @@ impl<'a> DeclarationReader<'a> {
 
     /// Takes a parameter, which has to be different from those before it.
     fn take_parameter(&mut self, lexeme: Lexeme<'a>) -> Result<(), TokenRefusal>
-        ensures { (names taken : List (List ℕ)) (logic : Logic) (s : DeclarationState) → HoldsDeclaration names logic s self.old → self.old.mode ≡ Mode.AtParameter
-            → TakesDeclaration result names logic (limited logic taken s (lexeme_as lexeme.entry)) self.new }
+        ensures { (names : List (List ℕ)) (logic : Logic) (s : DeclarationState) → HoldsDeclaration names logic s self.old → self.old.mode ≡ Mode.AtParameter
+            → TakesDeclaration result names logic (limited logic [] s (lexeme_as lexeme.entry)) self.new }
     {
         match lexeme {
             Lexeme::Variable(text) => {
@@ -164,8 +165,8 @@ impl<'a> DeclarationReader<'a> {
 
     /// Takes the comma or the parenthesis behind a parameter.
     fn take_behind_parameter(&mut self, lexeme: Lexeme<'a>) -> Result<(), TokenRefusal>
-        ensures { (names taken : List (List ℕ)) (logic : Logic) (s : DeclarationState) → HoldsDeclaration names logic s self.old → self.old.mode ≡ Mode.BehindParameter
-            → TakesDeclaration result names logic (limited logic taken s (lexeme_as lexeme.entry)) self.new }
+        ensures { (names : List (List ℕ)) (logic : Logic) (s : DeclarationState) → HoldsDeclaration names logic s self.old → self.old.mode ≡ Mode.BehindParameter
+            → TakesDeclaration result names logic (limited logic [] s (lexeme_as lexeme.entry)) self.new }
     {
         match lexeme {
             Lexeme::Sign(Sign::Comma) => {
@@ -185,8 +186,8 @@ impl<'a> DeclarationReader<'a> {
 
     /// Takes `:=` behind the parameters.
     fn take_defined(&mut self, lexeme: Lexeme<'a>) -> Result<(), TokenRefusal>
-        ensures { (names taken : List (List ℕ)) (logic : Logic) (s : DeclarationState) → HoldsDeclaration names logic s self.old → self.old.mode ≡ Mode.AtDefined
-            → TakesDeclaration result names logic (limited logic taken s (lexeme_as lexeme.entry)) self.new }
+        ensures { (names : List (List ℕ)) (logic : Logic) (s : DeclarationState) → HoldsDeclaration names logic s self.old → self.old.mode ≡ Mode.AtDefined
+            → TakesDeclaration result names logic (limited logic [] s (lexeme_as lexeme.entry)) self.new }
     {
         match lexeme {
             Lexeme::Sign(Sign::Defined) => {
@@ -204,8 +205,8 @@ impl<'a> DeclarationReader<'a> {
         lexeme: Lexeme<'a>,
     ) -> Result<(), TokenRefusal>
         requires { IsNamed lexeme }
-        ensures taken { (taken : List (List ℕ)) (logic : Logic) (s : DeclarationState) → HoldsDeclaration names.old logic s self.old → self.old.mode ≡ Mode.InFormula
-            → TakesDeclaration result names.new logic (limited logic taken s (lexeme_as lexeme.entry)) self.new }
+        ensures taken { (logic : Logic) (s : DeclarationState) → HoldsDeclaration names.old logic s self.old → self.old.mode ≡ Mode.InFormula
+            → TakesDeclaration result names.new logic (limited logic [] s (lexeme_as lexeme.entry)) self.new }
         ensures names { Grows names.old names.new }
         ensures only { AddsOnly (IsNameOf (lexeme_as lexeme.entry)) names.old names.new }
     {
@@ -217,8 +218,8 @@ impl<'a> DeclarationReader<'a> {
 
     /// Takes the dot behind the formula.
     fn take_dot(&mut self, names: &Names) -> Result<(), TokenRefusal>
-        ensures { (taken : List (List ℕ)) (logic : Logic) (s : DeclarationState) → HoldsDeclaration names.now logic s self.old → self.old.mode ≡ Mode.InFormula
-            → TakesDeclaration result names.now logic (limited logic taken s (a_sign Dot)) self.new }
+        ensures { (logic : Logic) (s : DeclarationState) → HoldsDeclaration names.now logic s self.old → self.old.mode ≡ Mode.InFormula
+            → TakesDeclaration result names.now logic (limited logic [] s (a_sign Dot)) self.new }
     {
         names.distinct();
         if !self.formula.is_whole() {
