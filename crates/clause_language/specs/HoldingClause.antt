@@ -39,11 +39,11 @@ body_at number numbers at_head = []
 body_at number numbers (in_body head done) = map (atom_meant number numbers) done
 
 -- the reader holds the variables so far and the atoms before a place, for all numberings that agree with the tables
-pub record HoldsPlace (names : List (List ℕ)) (m : Mode) (variables : List (List ℕ)) (p : AtomPlace) (r : ClauseReader) : Type 0 where
+pub record HoldsPlace (names : List (List ℕ)) (m : Mode) (vs : List (List ℕ)) (p : AtomPlace) (r : ClauseReader) : Type 0 where
   pub mode : r.mode ≡ m
-  pub variables : r.variables ≡ variables
-  pub head : (number numbers : List ℕ → ℕ) → Agrees number names → Agrees numbers variables → r.head ≡ head_at number numbers p
-  pub body : (number numbers : List ℕ → ℕ) → Agrees number names → Agrees numbers variables → r.body ≡ body_at number numbers p
+  pub variables : r.variables ≡ vs
+  pub head : (number numbers : List ℕ → ℕ) → Agrees number names → Agrees numbers vs → r.head ≡ head_at number numbers p
+  pub body : (number numbers : List ℕ → ℕ) → Agrees number names → Agrees numbers vs → r.body ≡ body_at number numbers p
 
 -- what the reader holds in a state
 abbrev pub HoldsParts : List (List ℕ) → ClauseState → ClauseReader → Type 0

@@ -20,11 +20,11 @@ abbrev pub IsFresh : Logic → FormulaReader → Type 0
 IsFresh logic r = (number : List ℕ → ℕ) (parameters : List (List ℕ)) → Holds number logic parameters (wants whole) r
 
 -- the reader holds the name, for all numberings that agree with the table, and the parameters, of which there are at most 255
-pub record HoldsHead (names : List (List ℕ)) (m : Mode) (x : List ℕ) (parameters : List (List ℕ)) (r : DeclarationReader) : Type 0 where
+pub record HoldsHead (names : List (List ℕ)) (m : Mode) (x : List ℕ) (ps : List (List ℕ)) (r : DeclarationReader) : Type 0 where
   pub mode : r.mode ≡ m
   pub name : (number : List ℕ → ℕ) → Agrees number names → r.name ≡ Some (number x)
-  pub parameters : r.parameters ≡ parameters
-  pub few : length parameters ≤ 255
+  pub parameters : r.parameters ≡ ps
+  pub few : length ps ≤ 255
 
 -- the reader holds the state
 abbrev pub HoldsDeclaration : List (List ℕ) → Logic → DeclarationState → DeclarationReader → Type 0

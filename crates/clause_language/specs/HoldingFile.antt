@@ -44,9 +44,9 @@ name_read _ = []
 
 -- The reader holds whole items, for all numberings that agree with the table, and the names of all formulas that are declared, where more may
 -- be those of an item that is being read.
-pub record HoldsItems (names : List (List ℕ)) (kind : FileKind) (expected : Option Logic) (earlier : List (List ℕ)) (m : Phase) (items : List WrittenItem) (more : List (List ℕ)) (r : FileReader) : Type 0 where
-  pub kind : r.kind ≡ kind
-  pub expected : r.expected ≡ expected
+pub record HoldsItems (names : List (List ℕ)) (k : FileKind) (wanted : Option Logic) (earlier : List (List ℕ)) (m : Phase) (items : List WrittenItem) (more : List (List ℕ)) (r : FileReader) : Type 0 where
+  pub kind : r.kind ≡ k
+  pub expected : r.expected ≡ wanted
   pub phase : r.phase ≡ m
   pub taken : AreTaken ((earlier ++ declared_names items) ++ more) r.taken
   pub declared : (number : List ℕ → ℕ) → Agrees number names → r.declared ≡ declared_meant number items

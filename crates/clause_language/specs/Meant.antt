@@ -1,7 +1,7 @@
 -- What written definitions and certificates stand for, by a numbering of names.
 use Rattle.std.specs.Prelude.{ℕ, List, [], ◌∷◌, length, map}
 use Rattle.fpc_terms.specs.Name.{index_in}
-use Rattle.fpc_terms.specs.Term.{Term, Args, no_args, arg}
+use Rattle.fpc_terms.specs.Term.{terms_in}
 use Rattle.fpc_terms.specs.Written.{WrittenTerm, term_tokens, term_meant, args_meant, variables_in}
 use Rattle.fpc_terms.specs.ReadTerm.{numbered}
 use Rattle.polarised_formulas.specs.Written.{WrittenFormula, formula_meant}

@@ -4,13 +4,13 @@ ghost use Rattle.fpc_base.specs.Lexeme.{lexeme_as, a_sign};
 ghost use Rattle.fpc_base.specs.declared.tokens.lexeme.Sign.TheVariants.{If, Comma, Dot};
 ghost use Rattle.fpc_terms.specs.Name.{Grows, Agrees, AreDifferent};
 ghost use Rattle.fpc_terms.specs.Adding.{AddsOnly, IsNameOf};
-ghost use Rattle.fpc_terms.specs.Term.{Args, app};
+ghost use Rattle.fpc_terms.specs.Term.{Args, app, terms_in};
 ghost use Rattle.fpc_terms.specs.Machine as term;
 ghost use Rattle.fpc_terms.specs.Holding as held;
 ghost use Rattle.fpc_terms.specs.Holding.{IsNamed};
 ghost use Rattle.fpc_terms.specs.ReadTerm.{numbered};
 ghost use Rattle.clause_language.specs.Written.{WrittenAtom, WrittenClause};
-ghost use Rattle.clause_language.specs.Meant.{terms_in, atom_meant, clause_meant};
+ghost use Rattle.clause_language.specs.Meant.{atom_meant, clause_meant};
 ghost use Rattle.clause_language.specs.ClauseMachine.{ClauseState, ended, limited, clause_start, whole_atom};
 ghost use Rattle.clause_language.specs.HoldingClause.{HoldsClause, TakesClause, is_separator, stands_behind};
 
@@ -23,7 +23,8 @@ use fpc_base::tokens::lexeme::{Lexeme, Sign};
 use fpc_terms::names::Names;
 use fpc_terms::read::take_token;
 use fpc_terms::reader::TermReader;
-use fpc_terms::term::{TermBuf, arguments, head};
+use fpc_terms::arguments::{arguments, head};
+use fpc_terms::term::TermBuf;
 use fpc_terms::var_table::VarTable;
 use std::alloc::Global;
 
@@ -228,16 +229,21 @@ impl ClauseReader {
 
     /// The clause, where it ended.
     pub fn finish(self) -> Option<Clause>
-        ensures { (names : List (List ℕ)) (c : WrittenClause) (number : List ℕ → ℕ) → HoldsClause names (ended c) self.entry → Agrees number names
+        ensures { (names : List (List ℕ)) (c : WrittenClause) (number : List ℕ → ℕ) → HoldsClause names (ended c) self → Agrees number names
             → result ≡ Some (clause_meant number c) }
     {
-        self.variables.distinct();
-        let variables = self.variables.count();
-        match self.head {
+        let ClauseReader {
+            head,
+            body,
+            variables,
+            ..
+        } = self;
+        variables.distinct();
+        match head {
             Some(head) => Some(Clause {
                 head,
-                body: self.body,
-                variables,
+                body,
+                variables: variables.count(),
             }),
             None => None,
         }

@@ -102,7 +102,7 @@ impl<'a> FileReader<'a> {
         expected: Option<Logic>,
         taken: VarTable,
     ) -> FileReader<'a>
-        ensures { (names earlier : List (List ℕ)) → AreTaken earlier taken.entry → HoldsFile names kind expected earlier start result }
+        ensures { (names earlier : List (List ℕ)) → AreTaken earlier taken → HoldsFile names kind expected earlier start result }
     {
         FileReader {
             alloc,

@@ -125,8 +125,8 @@ fn read_tokens<'a>(
     names: &mut Names,
     bytes: &'a [u8],
 ) -> Result<FileReader<'a>, ParseRefusal>
-    ensures ok { (earlier : List (List ℕ)) → AreTaken earlier taken.entry → IfOk result (FileIsRead kind expected earlier (items_of bytes.now) names.new) }
-    ensures err { (earlier : List (List ℕ)) → AreTaken earlier taken.entry → IfErr result (IsFileRefusal kind expected earlier (items_of bytes.now)) }
+    ensures ok { (earlier : List (List ℕ)) → AreTaken earlier taken → IfOk result (FileIsRead kind expected earlier (items_of bytes.now) names.new) }
+    ensures err { (earlier : List (List ℕ)) → AreTaken earlier taken → IfErr result (IsFileRefusal kind expected earlier (items_of bytes.now)) }
     ensures names { Grows names.old names.new }
     ensures only { AddsOnly (IsNameAmong (items_of bytes.now)) names.old names.new }
 {
