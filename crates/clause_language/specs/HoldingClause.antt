@@ -7,14 +7,17 @@ use Rattle.fpc_base.specs.declared.tokens.lexeme.Sign.TheVariants as sign
 use Rattle.fpc_base.specs.Lexeme.{Lexeme, a_sign}
 use Rattle.fpc_terms.specs.Name.{Agrees}
 use Rattle.fpc_terms.specs.Machine as term
-use Rattle.fpc_terms.specs.ReadTerm.{HoldsFor}
+use Rattle.fpc_terms.specs.Holding.{Holds}
+use Rattle.fpc_terms.specs.ReadTerm.{numbered, HoldsFor}
+use Rattle.fpc_terms.specs.declared.reader.TermReader.{TermReader}
 use Rattle.clause_language.specs.declared.atom.Atom.{Atom}
 use Rattle.clause_language.specs.declared.clause_reader.Mode.{Mode}
 use Rattle.clause_language.specs.declared.clause_reader.Mode.TheVariants as mode
 use Rattle.clause_language.specs.declared.clause_reader.ClauseReader.{ClauseReader}
+use Rattle.clause_language.specs.Written.{WrittenAtom}
 use Rattle.clause_language.specs.Limits.{AtomPlace, at_head, in_body}
 use Rattle.clause_language.specs.Meant.{atom_meant, clause_variables}
-use Rattle.clause_language.specs.ClauseMachine.{ClauseState, at_atom, in_atom, ended, stuck, run, clause_start}
+use Rattle.clause_language.specs.ClauseMachine.{ClauseState, at_atom, in_atom, ended, stuck, whole_atom, run, clause_start}
 
 -- a comma, `:-` or a dot
 abbrev pub is_separator : Lexeme → Bool
@@ -27,6 +30,10 @@ is_separator _ = false
 abbrev pub stands_behind : ClauseState → Lexeme → Bool
 stands_behind (in_atom p variables t) c = is_separator c && is_some (term.whole_of t)
 stands_behind _ _ = false
+
+-- the atom that the reader of terms holds, for each state in which it is whole
+abbrev pub IsAtomOf : TermReader → Atom → Type 0
+IsAtomOf r a = (number numbers : List ℕ → ℕ) (t : term.TermState) (w : WrittenAtom) → Holds number (numbered numbers) t r → whole_atom t ≡ Some w → a ≡ atom_meant number numbers w
 
 -- the head, where the place lies in the body
 abbrev pub head_at : (number numbers : List ℕ → ℕ) → AtomPlace → Option Atom

@@ -46,17 +46,16 @@ IsCertificateRefusal expected earlier items n parse.OutOfMemory = Unit {0}
 abbrev pub names_of : List (List ℕ) → List DeclaredFormula → List (List ℕ)
 names_of names ds = map (λ (d : DeclaredFormula). name_in names d.name) ds
 
-abbrev mutual
-  -- the state that the machine reaches along items, or the first refusal
-  pub read_items : FileKind → Option Logic → List (List ℕ) → FileState → List Item → Result FileState Refusal
-  read_items kind expected earlier s [] = Ok s
-  read_items kind expected earlier s (says c at ∷ items) = read_on kind expected earlier at (limited kind expected earlier s c) items
-  read_items kind expected earlier s (fault r ∷ items) = Err r
+-- what follows from the next state, or the refusal of a token at a place
+abbrev pub answered : (at : ℕ) → Result FileState Code → (FileState → Result FileState Refusal) → Result FileState Refusal
+answered at (Ok s) next = next s
+answered at (Err code) next = Err (record { code = code; at = at })
 
-  -- the same behind a token
-  pub read_on : FileKind → Option Logic → List (List ℕ) → (at : ℕ) → Result FileState Code → List Item → Result FileState Refusal
-  read_on kind expected earlier at (Ok s) items = read_items kind expected earlier s items
-  read_on kind expected earlier at (Err code) items = Err (record { code = code; at = at })
+-- the state that the machine reaches along items, or the first refusal
+abbrev pub read_items : FileKind → Option Logic → List (List ℕ) → FileState → List Item → Result FileState Refusal
+read_items kind expected earlier s [] = Ok s
+read_items kind expected earlier s (says c at ∷ items) = answered at (limited kind expected earlier s c) (λ t. read_items kind expected earlier t items)
+read_items kind expected earlier s (fault r ∷ items) = Err r
 
 -- the reader holds the state that the machine reaches at the end of the items
 pub record FileIsRead (kind : FileKind) (expected : Option Logic) (earlier : List (List ℕ)) (items : List Item) (names : List (List ℕ)) (r : FileReader) : Type 0 where

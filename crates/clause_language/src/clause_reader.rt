@@ -1,18 +1,15 @@
 //! A clause that is being read, token by token.
-ghost use Rattle.std.specs.Prelude.{◌≡◌, ◌↔◌, ℕ, List, true, false, Some, IfOk, IsTrue};
+ghost use Rattle.std.specs.Prelude.{◌≡◌, ◌↔◌, ◌++◌, ◌∷◌, [], ℕ, List, true, false, Some, IfOk, IfErr, OnOk, IsTrue};
 ghost use Rattle.fpc_base.specs.Lexeme.{lexeme_as, a_sign};
 ghost use Rattle.fpc_base.specs.declared.tokens.lexeme.Sign.TheVariants.{If, Comma, Dot};
 ghost use Rattle.fpc_terms.specs.Name.{Grows, Agrees, AreDifferent};
 ghost use Rattle.fpc_terms.specs.Adding.{AddsOnly, IsNameOf};
 ghost use Rattle.fpc_terms.specs.Term.{Args, app, terms_in};
-ghost use Rattle.fpc_terms.specs.Machine as term;
-ghost use Rattle.fpc_terms.specs.Holding as held;
 ghost use Rattle.fpc_terms.specs.Holding.{IsNamed};
-ghost use Rattle.fpc_terms.specs.ReadTerm.{numbered};
-ghost use Rattle.clause_language.specs.Written.{WrittenAtom, WrittenClause};
-ghost use Rattle.clause_language.specs.Meant.{atom_meant, clause_meant};
-ghost use Rattle.clause_language.specs.ClauseMachine.{ClauseState, ended, limited, clause_start, whole_atom};
-ghost use Rattle.clause_language.specs.HoldingClause.{HoldsClause, TakesClause, is_separator, stands_behind};
+ghost use Rattle.clause_language.specs.Written.{WrittenClause};
+ghost use Rattle.clause_language.specs.Meant.{clause_meant};
+ghost use Rattle.clause_language.specs.ClauseMachine.{ClauseState, ended, limited, clause_start};
+ghost use Rattle.clause_language.specs.HoldingClause.{HoldsClause, TakesClause, IsAtomOf, is_separator, stands_behind};
 
 use crate::atom::Atom;
 use crate::atom_list::Atoms;
@@ -177,10 +174,7 @@ impl ClauseReader {
         if self.head.is_some() {
             return Err(TokenRefusal::Refused(Code::Unexpected));
         }
-        let atom = self.finish_atom()?;
-        self.head = Some(atom);
-        self.mode = Mode::AtAtom;
-        Ok(())
+        self.put_head(Mode::AtAtom)
     }
 
     /// Takes a comma behind an atom of the body.
@@ -192,10 +186,7 @@ impl ClauseReader {
         if self.head.is_none() {
             return Err(TokenRefusal::Refused(Code::Unexpected));
         }
-        let atom = self.finish_atom()?;
-        self.body.push(atom)?;
-        self.mode = Mode::AtAtom;
-        Ok(())
+        self.put_in_body(Mode::AtAtom)
     }
 
     /// Takes the dot behind the last atom.
@@ -204,27 +195,32 @@ impl ClauseReader {
             → TakesClause result names (limited s (a_sign Dot)) self.new }
     {
         self.variables.distinct();
-        let atom = self.finish_atom()?;
         if self.head.is_none() {
-            self.head = Some(atom);
-        } else {
-            self.body.push(atom)?;
+            return self.put_head(Mode::Ended);
         }
-        self.mode = Mode::Ended;
+        self.put_in_body(Mode::Ended)
+    }
+
+    /// Makes the atom that is being read the head.
+    fn put_head(&mut self, next: Mode) -> Result<(), TokenRefusal>
+        ensures ok { OnOk result ((a : Atom) × (IsAtomOf self.old.terms a × (self.new ≡ record self.old { mode = next; head = Some a; terms = self.new.terms }))) }
+        ensures err { IfErr result (λ e. e ≡ TokenRefusal.OutOfMemory) }
+    {
+        let atom = finish_atom(self.alloc, &mut self.terms)?;
+        self.head = Some(atom);
+        self.mode = next;
         Ok(())
     }
 
-    /// The atom that is being read, where it is whole.
-    fn finish_atom(&mut self) -> Result<Atom, OutOfMemory>
-        ensures atom { (number numbers : List ℕ → ℕ) (t : term.TermState) (w : WrittenAtom) → held.Holds number (numbered numbers) t self.old.terms
-            → whole_atom t ≡ Some w → IfOk result (λ a. a ≡ atom_meant number numbers w) }
-        ensures kept { self.new ≡ record self.old { terms = self.new.terms } }
+    /// Puts the atom that is being read behind the others of the body.
+    fn put_in_body(&mut self, next: Mode) -> Result<(), TokenRefusal>
+        ensures ok { OnOk result ((a : Atom) × (IsAtomOf self.old.terms a × (self.new ≡ record self.old { mode = next; body = self.old.body ++ a ∷ []; terms = self.new.terms }))) }
+        ensures err { IfErr result (λ e. e ≡ TokenRefusal.OutOfMemory) }
     {
-        match self.terms.finish(self.alloc)? {
-            Some(term) => atom_of(self.alloc, &term),
-            // A whole term was read, so only memory can be missing.
-            None => Err(OutOfMemory),
-        }
+        let atom = finish_atom(self.alloc, &mut self.terms)?;
+        self.body.push(atom)?;
+        self.mode = next;
+        Ok(())
     }
 
     /// The clause, where it ended.
@@ -247,6 +243,17 @@ impl ClauseReader {
             }),
             None => None,
         }
+    }
+}
+
+/// The atom that the reader of terms holds, where it is whole.
+fn finish_atom(alloc: Global, terms: &mut TermReader) -> Result<Atom, OutOfMemory>
+    ensures { IfOk result (IsAtomOf terms.old) }
+{
+    match terms.finish(alloc)? {
+        Some(term) => atom_of(alloc, &term),
+        // A whole term was read, so only memory can be missing.
+        None => Err(OutOfMemory),
     }
 }
 
