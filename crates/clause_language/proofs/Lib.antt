@@ -13,3 +13,4 @@ pub mod FileLaws
 pub mod FileLimits
 pub mod FileReading
 pub mod CopiedTermFiles
+pub mod DeclarationReading

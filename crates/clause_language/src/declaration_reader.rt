@@ -10,6 +10,9 @@ ghost use Rattle.clause_language.specs.Meant.{declaration_meant};
 ghost use Rattle.clause_language.specs.DeclarationMachine.{DeclarationState, at_name, ended, limited};
 ghost use Rattle.clause_language.specs.HoldingDeclaration.{HoldsDeclaration, TakesDeclaration};
 
+#[cfg(test)]
+mod tests;
+
 use crate::declaration::DeclaredFormula;
 use fpc_base::outside::OutOfMemory;
 use fpc_base::refusal::{Code, TokenRefusal};
@@ -199,21 +202,17 @@ impl<'a> DeclarationReader<'a> {
     }
 
     /// Takes a token of the formula, or the dot behind it.
-    fn take_in_formula(
-        &mut self,
-        names: &mut Names,
-        lexeme: Lexeme<'a>,
-    ) -> Result<(), TokenRefusal>
+    fn take_in_formula(&mut self, names: &mut Names, lexeme: Lexeme<'a>) -> Result<(), TokenRefusal>
         requires { IsNamed lexeme }
         ensures taken { (logic : Logic) (s : DeclarationState) → HoldsDeclaration names.old logic s self.old → self.old.mode ≡ Mode.InFormula
             → TakesDeclaration result names.new logic (limited logic [] s (lexeme_as lexeme.entry)) self.new }
         ensures names { Grows names.old names.new }
         ensures only { AddsOnly (IsNameOf (lexeme_as lexeme.entry)) names.old names.new }
     {
-        match lexeme {
-            Lexeme::Sign(Sign::Dot) => self.take_dot(names),
-            _ => take_token(&mut self.formula, names, &self.parameters, lexeme),
+        if lexeme.is(Sign::Dot) {
+            return self.take_dot(names);
         }
+        take_token(&mut self.formula, names, &self.parameters, lexeme)
     }
 
     /// Takes the dot behind the formula.
@@ -234,7 +233,10 @@ impl<'a> DeclarationReader<'a> {
         ensures { (names : List (List ℕ)) (logic : Logic) (x : List ℕ) (parameters : List (List ℕ)) (w : WrittenFormula) (number : List ℕ → ℕ)
             → HoldsDeclaration names logic (ended x parameters w) self.entry → Agrees number names → IfOk result (λ found. found ≡ Some (declaration_meant number x parameters w)) }
     {
-        let parameters = self.parameters.count() as u8;
+        // A comma behind 255 parameters is refused, so the number fits.
+        let Ok(parameters) = u8::try_from(self.parameters.count()) else {
+            return Ok(None);
+        };
         let Some(formula) = self.formula.finish()? else {
             return Ok(None);
         };
