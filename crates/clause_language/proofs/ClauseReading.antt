@@ -30,13 +30,13 @@ use Rattle.clause_language.proofs.ClauseStates.{IsAtomState, IsClauseState}
 use Rattle.clause_language.proofs.ClauseLaws.{clause_behind, clause_behind-step, clause_led, in_atom-variables, ended-variables, variables_in-append}
 
 -- what a term's answer says of its step
-data Judged (t : term.TermState) : Result term.TermState Code → Type 0 where
+pub data Judged (t : term.TermState) : Result term.TermState Code → Type 0 where
   nowhere : t ≡ term.stuck → Judged t (Err Unexpected)
   arguments : Judged t (Err ManyArguments)
   variables : Judged t (Err ManyVariables)
   taken : term.IsLive t → Judged t (Ok t)
 
-judged : (full many : Bool) (t : term.TermState) → Judged t (term.within full many t)
+pub judged : (full many : Bool) (t : term.TermState) → Judged t (term.within full many t)
 judged full many term.stuck = nowhere refl
 judged true many (term.wants s) = arguments
 judged false true (term.wants s) = variables

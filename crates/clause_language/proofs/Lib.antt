@@ -14,3 +14,6 @@ pub mod FileLimits
 pub mod FileReading
 pub mod CopiedTermFiles
 pub mod DeclarationReading
+pub mod FileHolding
+pub mod FileTaking
+pub mod FileTokens

@@ -13,8 +13,11 @@ use Rattle.fpc_terms.specs.Written.{WrittenTerm, variables_in}
 use Rattle.fpc_terms.specs.Spot.{alone}
 use Rattle.fpc_terms.specs.Machine as term
 use Rattle.fpc_terms.specs.ReadTerm.{any_variable, HoldsFor}
+use Rattle.fpc_terms.specs.declared.reader.TermReader.{TermReader}
 use Rattle.polarised_formulas.specs.declared.logic.Logic.{Logic}
 use Rattle.clause_language.specs.declared.certificate.Certificate.{Certificate}
+use Rattle.clause_language.specs.declared.clause.Clause.{Clause}
+use Rattle.clause_language.specs.declared.declaration.DeclaredFormula.{DeclaredFormula}
 use Rattle.clause_language.specs.declared.definition.Definition.{Definition}
 use Rattle.clause_language.specs.declared.file.FileKind.{FileKind}
 use Rattle.clause_language.specs.declared.file.FileReader.{FileReader}
@@ -42,45 +45,49 @@ name_read (declaring.in_formula x parameters s) = x ∷ []
 name_read (declaring.ended x parameters w) = x ∷ []
 name_read _ = []
 
--- The reader holds whole items, for all numberings that agree with the table, and the names of all formulas that are declared, where more may
--- be those of an item that is being read.
-pub record HoldsItems (names : List (List ℕ)) (k : FileKind) (wanted : Option Logic) (earlier : List (List ℕ)) (m : Phase) (items : List WrittenItem) (more : List (List ℕ)) (r : FileReader) : Type 0 where
-  pub kind : r.kind ≡ k
-  pub expected : r.expected ≡ wanted
-  pub phase : r.phase ≡ m
-  pub taken : AreTaken ((earlier ++ declared_names items) ++ more) r.taken
-  pub declared : (number : List ℕ → ℕ) → Agrees number names → r.declared ≡ declared_meant number items
-  pub clauses : (number : List ℕ → ℕ) → Agrees number names → r.clauses ≡ clauses_meant number items
+-- Whole items are held, for all numberings that agree with the table of names, and the names of all formulas that are declared, where more may be
+-- those of an item that is being read.
+pub record HoldsItems (names earlier : List (List ℕ)) (items : List WrittenItem) (more : List (List ℕ)) (table : List (List ℕ)) (ds : List DeclaredFormula) (cs : List Clause) : Type 0 where
+  pub taken : AreTaken ((earlier ++ declared_names items) ++ more) table
+  pub declared : (number : List ℕ → ℕ) → Agrees number names → ds ≡ declared_meant number items
+  pub clauses : (number : List ℕ → ℕ) → Agrees number names → cs ≡ clauses_meant number items
 
--- the reader holds a term and its variables, and some tokens lead to the state
-pub record HoldsTerm (names : List (List ℕ)) (t : term.TermState) (r : FileReader) : Type 0 where
+-- the reader reads a file of the kind, and holds whole items
+abbrev pub IsBehind : List (List ℕ) → FileKind → Option Logic → List (List ℕ) → Phase → List WrittenItem → List (List ℕ) → FileReader → Type 0
+IsBehind names kind expected earlier m items more r =
+    (r.kind ≡ kind) × (r.expected ≡ expected) × (r.phase ≡ m) × HoldsItems names earlier items more r.taken r.declared r.clauses
+
+-- a term and its variables are held, and some tokens lead to the state
+pub record HoldsTerm (names : List (List ℕ)) (t : term.TermState) (terms : TermReader) (vs : List (List ℕ)) : Type 0 where
   pub tokens : List Lexeme
   pub reached : term.run any_variable (term.wants alone) tokens ≡ t
-  pub variables : r.variables ≡ variables_in tokens []
-  pub holds : HoldsFor names r.variables t r.terms
+  pub variables : vs ≡ variables_in tokens []
+  pub holds : HoldsFor names vs t terms
 
--- the reader holds a term that is whole
-pub record HoldsWholeTerm (names : List (List ℕ)) (w : WrittenTerm) (r : FileReader) : Type 0 where
+-- a term that is whole is held
+pub record HoldsWholeTerm (names : List (List ℕ)) (w : WrittenTerm) (terms : TermReader) (vs : List (List ℕ)) : Type 0 where
   pub state : term.TermState
   pub whole : term.whole_of state ≡ Some w
-  pub variables : r.variables ≡ term_variables w
-  pub holds : HoldsFor names r.variables state r.terms
+  pub variables : vs ≡ term_variables w
+  pub holds : HoldsFor names vs state terms
+
+-- the certificate's term is still to come
+abbrev pub IsFresh : List (List ℕ) → FileReader → Type 0
+IsFresh names r = HoldsTerm names (term.wants alone) r.terms r.variables
 
 -- the reader holds the state
 abbrev pub HoldsFile : List (List ℕ) → FileKind → Option Logic → List (List ℕ) → FileState → FileReader → Type 0
-HoldsFile names kind expected earlier start r =
-    HoldsItems names kind expected earlier phase.Start [] [] r × HoldsTerm names (term.wants alone) r
+HoldsFile names kind expected earlier start r = IsBehind names kind expected earlier phase.Start [] [] r × IsFresh names r
 HoldsFile names kind expected earlier (at_item logic items) r =
-    HoldsItems names kind expected earlier phase.AtItem items [] r × (r.logic ≡ logic) × HoldsTerm names (term.wants alone) r
+    IsBehind names kind expected earlier phase.AtItem items [] r × (r.logic ≡ logic) × IsFresh names r
 HoldsFile names kind expected earlier (in_declaration logic items d) r =
-    HoldsItems names kind expected earlier phase.InDeclaration items (name_read d) r × (r.logic ≡ logic) × HoldsTerm names (term.wants alone) r
-    × HoldsDeclaration names logic d r.declaration
+    IsBehind names kind expected earlier phase.InDeclaration items (name_read d) r × (r.logic ≡ logic) × IsFresh names r × HoldsDeclaration names logic d r.declaration
 HoldsFile names kind expected earlier (in_clause logic items s) r =
-    HoldsItems names kind expected earlier phase.InClause items [] r × (r.logic ≡ logic) × HoldsTerm names (term.wants alone) r × HoldsClause names s r.clause
+    IsBehind names kind expected earlier phase.InClause items [] r × (r.logic ≡ logic) × IsFresh names r × HoldsClause names s r.clause
 HoldsFile names kind expected earlier (in_term logic items t) r =
-    HoldsItems names kind expected earlier phase.InTerm items [] r × (r.logic ≡ logic) × HoldsTerm names t r
+    IsBehind names kind expected earlier phase.InTerm items [] r × (r.logic ≡ logic) × HoldsTerm names t r.terms r.variables
 HoldsFile names kind expected earlier (finished logic items w) r =
-    HoldsItems names kind expected earlier phase.Finished items [] r × (r.logic ≡ logic) × HoldsWholeTerm names w r
+    IsBehind names kind expected earlier phase.Finished items [] r × (r.logic ≡ logic) × HoldsWholeTerm names w r.terms r.variables
 HoldsFile names kind expected earlier lost r = ⊥
 
 -- a token was taken or refused as the machine does, or memory ran out

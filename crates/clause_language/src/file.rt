@@ -192,11 +192,14 @@ impl<'a> FileReader<'a> {
         ensures { (names : List (List ℕ)) (kind : FileKind) (expected : Option Logic) (earlier : List (List ℕ)) (s : FileState) → HoldsFile names kind expected earlier s self.old
             → self.old.phase ≡ Phase.AtItem → TakesFile result names kind expected earlier (limited kind expected earlier s (a_sign sign.Certificate)) self.new }
     {
-        if self.kind == FileKind::Definition {
-            return refused(Code::Unexpected);
+        let kind = self.kind;
+        match kind {
+            FileKind::Definition => refused(Code::Unexpected),
+            FileKind::Certificate => {
+                self.phase = Phase::InTerm;
+                Ok(())
+            }
         }
-        self.phase = Phase::InTerm;
-        Ok(())
     }
 
     /// Takes the name that a clause begins with.
@@ -338,10 +341,10 @@ impl<'a> FileReader<'a> {
         ensures names { Grows names.old names.new }
         ensures only { AddsOnly (IsNameOf (lexeme_as lexeme.entry)) names.old names.new }
     {
-        match lexeme {
-            Lexeme::Sign(Sign::Dot) => self.take_dot(names),
-            _ => take_token(&mut self.terms, names, &mut self.variables, None, lexeme),
+        if lexeme.is(Sign::Dot) {
+            return self.take_dot(names);
         }
+        take_token(&mut self.terms, names, &mut self.variables, None, lexeme)
     }
 
     /// Takes the dot behind the certificate's term.

@@ -1,0 +1,5 @@
+use Rattle.clause_language.proofs.FileTaking.{declaration-ends}
+use Rattle.clause_language.proofs.file.FileReader.end_declaration.Goals as goal
+
+pub returns-in_ok-push-in-Some-clause-ok : goal.returns-in_ok-push-in-Some-clause-ok
+returns-in_ok-push-in-Some-clause-ok c = ?
