@@ -119,7 +119,7 @@ mutual
   args_tokens-append (words t ts) xs rest =
       ap (λ (us : List Lexeme). a_sign OpenParenthesis ∷ us) (ap (term_tokens t) (more_tokens-append ts xs rest) ∙ term_tokens-append t (more_tokens ts xs) rest)
 
-  pub more_tokens-append : (ts : WrittenArgs) (xs rest : List Lexeme) → more_tokens ts (xs ++ rest) ≡ more_tokens ts xs ++ rest
+  more_tokens-append : (ts : WrittenArgs) (xs rest : List Lexeme) → more_tokens ts (xs ++ rest) ≡ more_tokens ts xs ++ rest
   more_tokens-append no_words xs rest = refl
   more_tokens-append (words t ts) xs rest =
       ap (λ (us : List Lexeme). a_sign Comma ∷ us) (ap (term_tokens t) (more_tokens-append ts xs rest) ∙ term_tokens-append t (more_tokens ts xs) rest)
