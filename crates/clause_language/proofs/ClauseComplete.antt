@@ -7,14 +7,14 @@ use Rattle.fpc_terms.specs.Written.{application, variable_word, no_words, args_t
 use Rattle.fpc_terms.specs.Spot.{Spot, alone, in_arguments, in_term, tokens_to, done_tokens, IsAlone}
 use Rattle.fpc_terms.specs.Machine as term
 use Rattle.fpc_terms.specs.ReadTerm.{any_variable}
-use Rattle.fpc_terms.proofs.TermLaws.{IsBehind}
+use Rattle.fpc_terms.proofs.TermLaws.{IsBehind, args_tokens-append}
 use Rattle.fpc_terms.proofs.TermLaws as term_laws
-use Rattle.fpc_terms.proofs.TermReading.{run-whole}
+use Rattle.fpc_terms.proofs.TermReading.{run-whole, run-tokens_to, variables_in-append}
+use Rattle.fpc_terms.proofs.AnyTerm.{any-args, any-spot}
 use Rattle.clause_language.specs.Written.{WrittenAtom, WrittenClause, atom_tokens, more_atom_tokens, body_tokens, clause_tokens}
 use Rattle.clause_language.specs.Limits.{AtomPlace, at_head, in_body, done_atom_tokens, tokens_to_atom, IsInside}
 use Rattle.clause_language.specs.ClauseMachine.{at_atom, in_atom, ended, whole_in, whole_atom, clause_of, behind_atom, gone_on, step, run, clause_start}
-use Rattle.clause_language.proofs.CopiedTerms.{args_tokens-append, run-tokens_to}
-use Rattle.clause_language.proofs.ClauseStates.{any-args, any-spot, variables_in-append, inside-alone}
+use Rattle.clause_language.proofs.ClauseStates.{inside-alone}
 
 gone_on-live : (p : AtomPlace) (vs : List (List ℕ)) (o : Option WrittenAtom) (c : Lexeme) (u : term.TermState) → term.IsLive u
     → gone_on p vs o c u ≡ in_atom p (variables_in (c ∷ []) vs) u

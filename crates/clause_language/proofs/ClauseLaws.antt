@@ -12,15 +12,16 @@ use Rattle.fpc_terms.specs.Written.{WrittenTerm, variable_word, application, no_
 use Rattle.fpc_terms.specs.Spot.{Spot, alone, in_arguments, in_term, tokens_to, done_at}
 use Rattle.fpc_terms.specs.Machine as term
 use Rattle.fpc_terms.specs.ReadTerm.{any_variable}
+use Rattle.fpc_terms.proofs.TermLaws.{args_tokens-append}
 use Rattle.clause_language.specs.Written.{WrittenAtom, WrittenClause, atom_tokens, more_atom_tokens, body_tokens, clause_tokens}
 use Rattle.clause_language.specs.Limits.{AtomPlace, at_head, in_body, LeadsIntoAtom, ClauseLimits, many_arguments, many_variables}
 use Rattle.clause_language.specs.ClauseMachine.{ClauseState, at_atom, in_atom, ended, stuck, whole_atom, gone_on, behind_atom, behind, step, run, clause_start, within, gone_on_within, limited}
-use Rattle.clause_language.proofs.CopiedTerms.{args_tokens-append}
 use Rattle.clause_language.proofs.ClauseStates.{clause_tokens_before, IsClauseState, KeepsVariables}
 use Rattle.clause_language.proofs.ClauseSound.{clause_run-leads, run-keeps}
 use Rattle.clause_language.proofs.ClauseComplete.{run-clause_tokens, variables_to_atom, run-to_argument}
 use Rattle.clause_language.proofs.ClauseViable.{clause_state-ends}
-pub use Rattle.clause_language.proofs.ClauseStates.{IsLiveClause, IsGoingClause, variables_in-append}
+pub use Rattle.fpc_terms.proofs.TermReading.{variables_in-append}
+pub use Rattle.clause_language.proofs.ClauseStates.{IsLiveClause, IsGoingClause}
 pub use Rattle.clause_language.proofs.ClauseSound.{clause_run-append, clause_run-stuck}
 
 -- the state behind the tokens of a clause from its first on

@@ -8,10 +8,12 @@ use Rattle.fpc_terms.specs.Machine as term
 use Rattle.fpc_terms.specs.ReadTerm.{any_variable}
 use Rattle.fpc_terms.proofs.States as of_term
 use Rattle.fpc_terms.proofs.TermLaws as term_laws
+use Rattle.fpc_terms.proofs.TermReading.{variables_in-append}
+use Rattle.fpc_terms.proofs.AnyTerm.{any-state}
 use Rattle.clause_language.specs.Written.{WrittenAtom, atom_tokens, more_atom_tokens, body_tokens}
 use Rattle.clause_language.specs.Limits.{AtomPlace, at_head, in_body, done_atom_tokens, tokens_to_atom}
 use Rattle.clause_language.specs.ClauseMachine.{ClauseState, at_atom, in_atom, stuck, whole_atom, behind_atom, behind, gone_on, step, run}
-use Rattle.clause_language.proofs.ClauseStates.{IsLiveClause, clause_tokens_before, IsAtomState, IsClauseState, KeepsVariables, ClauseFollows, ClauseLeads, any-state, step-atom, variables_in-append}
+use Rattle.clause_language.proofs.ClauseStates.{IsLiveClause, clause_tokens_before, IsAtomState, IsClauseState, KeepsVariables, ClauseFollows, ClauseLeads, step-atom}
 
 -- an atom behind others
 pub done_atom_tokens-last : (done : List WrittenAtom) (a : WrittenAtom) (rest : List Lexeme)

@@ -1,10 +1,9 @@
 -- What a state of the machine of clauses has read.
-use Rattle.std.specs.Prelude.{◌≡◌, ℕ, List, [], ◌∷◌, ◌++◌, refl, if◌then◌else◌}
+use Rattle.std.specs.Prelude.{◌≡◌, ℕ, List, ◌∷◌, ◌++◌}
 use Rattle.fpc_base.specs.declared.tokens.lexeme.Sign.TheVariants as sign
 use Rattle.fpc_base.specs.Lexeme.{Lexeme, a_name, a_variable, a_sign}
-use Rattle.fpc_base.specs.Tokens.{is_one_of}
-use Rattle.fpc_terms.specs.Written.{WrittenTerm, WrittenArgs, variable_word, application, no_words, words, variables_in, IsKnown, AreKnown}
-use Rattle.fpc_terms.specs.Spot.{Spot, alone, in_arguments, in_term, AllKnown, IsSpotKnown, IsAlone}
+use Rattle.fpc_terms.specs.Written.{WrittenTerm, WrittenArgs, variable_word, application, no_words, words}
+use Rattle.fpc_terms.specs.Spot.{Spot, alone, in_arguments, in_term, IsAlone}
 use Rattle.fpc_terms.specs.Machine as term
 use Rattle.fpc_terms.specs.ReadTerm.{any_variable}
 use Rattle.fpc_terms.proofs.States as of_term
@@ -69,38 +68,6 @@ pub record ClauseFollows (s : ClauseState) (c : Lexeme) (t : ClauseState) : Type
 pub record ClauseLeads (cs : List Lexeme) (s t : ClauseState) : Type 0 where
   pub tokens : (rest : List Lexeme) → clause_tokens_before t rest ≡ clause_tokens_before s (cs ++ rest)
   pub is_state : IsClauseState t
-
--- every variable may stand in an atom
-mutual
-  pub any-term : (t : WrittenTerm) → IsKnown any_variable t
-  any-term (variable_word x) = refl
-  any-term (application x args) = any-args args
-
-  pub any-args : (ts : WrittenArgs) → AreKnown any_variable ts
-  any-args no_words = tt
-  any-args (words t ts) = (any-term t, any-args ts)
-
-pub any-done : (ts : List WrittenTerm) → AllKnown any_variable ts
-any-done [] = tt
-any-done (t ∷ ts) = (any-term t, any-done ts)
-
-pub any-spot : (s : Spot) → IsSpotKnown any_variable s
-any-spot alone = tt
-any-spot (in_arguments ds) = any-done ds
-any-spot (in_term x ds s) = (any-done ds, any-spot s)
-
-pub any-state : (t : term.TermState) → of_term.IsStateKnown any_variable t
-any-state (term.wants s) = any-spot s
-any-state (term.named x s) = any-spot s
-any-state (term.has u s) = (any-term u, any-spot s)
-any-state (term.ended args) = any-args args
-any-state term.stuck = tt
-
--- the variables of tokens in two parts
-pub variables_in-append : (cs ds : List Lexeme) (earlier : List (List ℕ)) → variables_in (cs ++ ds) earlier ≡ variables_in ds (variables_in cs earlier)
-variables_in-append [] ds earlier = refl
-variables_in-append (a_variable x ∷ cs) ds earlier = variables_in-append cs ds (if is_one_of earlier x then earlier else earlier ++ x ∷ [])
-variables_in-append (_ ∷ cs) ds earlier = variables_in-append cs ds earlier
 
 -- a spot inside a term lies in a term by itself
 pub inside-alone : (s : Spot) → IsInside s → IsAlone s

@@ -7,10 +7,10 @@ use Rattle.fpc_terms.specs.Spot.{alone, in_arguments, in_term}
 use Rattle.fpc_terms.specs.Machine as term
 use Rattle.fpc_terms.specs.ReadTerm.{any_variable}
 use Rattle.fpc_terms.proofs.TermLaws as term_laws
+use Rattle.fpc_terms.proofs.TermReading.{completes, whole-live}
 use Rattle.clause_language.specs.Written.{WrittenAtom, WrittenClause}
 use Rattle.clause_language.specs.Limits.{AtomPlace, at_head, in_body}
 use Rattle.clause_language.specs.ClauseMachine.{ClauseState, at_atom, in_atom, ended, stuck, whole_atom, clause_of, behind_atom, run}
-use Rattle.clause_language.proofs.CopiedTerms.{completes, whole-live}
 use Rattle.clause_language.proofs.ClauseStates.{IsLiveClause, IsAtomState, IsClauseState, atom-alone, atom-live, step-atom}
 use Rattle.clause_language.proofs.ClauseComplete.{run-in_atom, whole_atom-ends}
 

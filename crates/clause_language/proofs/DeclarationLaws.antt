@@ -16,12 +16,12 @@ use Rattle.polarised_formulas.specs.Machine as formula
 use Rattle.polarised_formulas.proofs.States.{IsLive}
 use Rattle.polarised_formulas.proofs.Sound.{live-run, run-append}
 use Rattle.polarised_formulas.proofs.FormulaLaws.{state_behind, state_behind-step, whole-live, live-begins, whole-formula, formula-whole, step-begins, begins-step}
-use Rattle.polarised_formulas.proofs.Limits.{IsJudged, limited-judged, limits-once}
+use Rattle.polarised_formulas.proofs.Limits.{IsJudged, limited-judged, limits-once, limits-expected, limits-live}
 use Rattle.polarised_formulas.proofs.ProblemLaws.{formula-append, step-dot}
+use Rattle.polarised_formulas.proofs.ProblemLimits.{stuck-is, dot-free}
 use Rattle.clause_language.specs.Written.{declaration, more_parameter_tokens, parameter_tokens, declared_tokens, item_tokens, IsItemOf}
 use Rattle.clause_language.specs.Limits.{done_parameter_tokens, DeclarationLimits, duplicate, many_parameters, in_formula as formula_limits}
 use Rattle.clause_language.specs.DeclarationMachine.{DeclarationState, at_word, at_name, behind_name, at_parameter, behind_parameter, at_defined, in_formula, ended, stuck, with_parameter, dotted, read_on, step, run, within, named_within, read_within, limited}
-use Rattle.clause_language.proofs.CopiedFormulas.{stuck-is, limits-expected, dot-free, limits-live}
 use Rattle.clause_language.proofs.Parameters.{done-push, done-append, done-close, parameter-append, declared-append, declared-same, AreDifferent-none, AreDifferent-push, absent-before, fresh, fresh-absent}
 
 -- a declaration begins so

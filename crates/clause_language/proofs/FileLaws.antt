@@ -7,13 +7,15 @@ use Rattle.fpc_terms.specs.Written.{WrittenTerm, application, no_words, term_tok
 use Rattle.fpc_terms.specs.Spot.{alone}
 use Rattle.fpc_terms.specs.Machine as term
 use Rattle.fpc_terms.specs.ReadTerm.{any_variable}
+use Rattle.fpc_terms.proofs.TermLaws.{term_tokens-append}
 use Rattle.fpc_terms.proofs.TermLaws as term_laws
-use Rattle.fpc_terms.proofs.TermReading.{whole-is, is-whole, live-begins}
+use Rattle.fpc_terms.proofs.TermReading.{whole-live, whole-is, is-whole, live-begins, run-one}
+use Rattle.fpc_terms.proofs.AnyTerm.{any-term}
 use Rattle.polarised_formulas.specs.declared.logic.Logic.{Logic}
 use Rattle.polarised_formulas.specs.declared.logic.Logic.TheVariants.{Lkf, Ljf}
 use Rattle.polarised_formulas.specs.Written.{formula_tokens, logic_word}
 use Rattle.polarised_formulas.specs.Machine.{logic_of}
-use Rattle.polarised_formulas.proofs.ProblemLaws.{logic_of-word}
+use Rattle.polarised_formulas.proofs.ProblemLaws.{term-dot, logic_of-word}
 use Rattle.clause_language.specs.declared.file.FileKind.{FileKind}
 use Rattle.clause_language.specs.declared.file.FileKind.TheVariants.{Definition, Certificate}
 use Rattle.clause_language.specs.Written.{WrittenItem, declaration, a_clause, body_tokens, parameter_tokens, WrittenDefinition, WrittenCertificate, item_tokens, items_tokens, IsItemOf, AreItemsOf, IsDefinition, IsCertificate}
@@ -21,7 +23,6 @@ use Rattle.clause_language.specs.Limits.{declared_names, DefinitionLimits, Certi
 use Rattle.clause_language.specs.ClauseMachine as clause
 use Rattle.clause_language.specs.DeclarationMachine as declaring
 use Rattle.clause_language.specs.FileMachine.{FileState, start, at_item, in_declaration, in_clause, in_term, finished, lost, begun_in, declared, claused, begun, dotted, read_on, step, run, definition_of, certificate_of}
-use Rattle.clause_language.proofs.CopiedTermFiles.{term-append, term-known, term-dot, whole-live, run-one}
 use Rattle.clause_language.proofs.ClauseLaws.{clause_behind, IsLiveClause, IsGoingClause, clause_run-stuck, clause_ended-stops, clause_behind-step, clause-append, clause-ended, ended-clause, clause-ends}
 use Rattle.clause_language.proofs.DeclarationLaws.{declaration_behind, IsLiveDeclaration, IsGoingDeclaration, declaration_run-stuck, declaration_ended-stops, declaration_behind-step, declaration-append, declaration-ended, ended-declaration, declaration-ends}
 
@@ -222,7 +223,7 @@ stands-dotted : (kind : FileKind) (logic : Logic) (items : List WrittenItem) (cs
 stands-dotted kind logic items cs tokens (Some w) k hs e h =
     let t : IsTerm any_variable cs w = whole-is any_variable cs w h in
     at_end logic items w k hs (e ∙ ap (λ l. logic_word logic ∷ items_tokens logic items (a_sign sign.Certificate ∷ l))
-    (ap (λ l. l ++ a_sign sign.Dot ∷ []) t.spelled ∙ sym (term-append w [] (a_sign sign.Dot ∷ []))))
+    (ap (λ l. l ++ a_sign sign.Dot ∷ []) t.spelled ∙ sym (term_tokens-append w [] (a_sign sign.Dot ∷ []))))
 stands-dotted kind logic items cs tokens None k hs e h = nowhere
 
 stands-read_on : (kind : FileKind) (logic : Logic) (items : List WrittenItem) (cs tokens : List Lexeme) (t : term.TermState) → kind ≡ Certificate → AreItemsOf logic items
@@ -311,11 +312,11 @@ behind-term logic items cs hs live =
 
 certificate-behind : (tokens : List Lexeme) (w : WrittenCertificate) → IsCertificate tokens w → file_behind Certificate tokens ≡ finished w.logic w.items w.term
 certificate-behind tokens w h =
-    let t : IsTerm any_variable (term_tokens w.term []) w.term = record { spelled = refl; known_all = term-known w.term } in
+    let t : IsTerm any_variable (term_tokens w.term []) w.term = record { spelled = refl; known_all = any-term w.term } in
     let e : term.whole_of (term.run any_variable (term.wants alone) (term_tokens w.term [])) ≡ Some w.term = is-whole any_variable (term_tokens w.term []) w.term t in
     ap (file_behind Certificate)
     (h.spelled ∙ ap (λ l. logic_word w.logic ∷ l)
-    (ap (λ l. items_tokens w.logic w.items (a_sign sign.Certificate ∷ l)) (term-append w.term [] (a_sign sign.Dot ∷ []))
+    (ap (λ l. items_tokens w.logic w.items (a_sign sign.Certificate ∷ l)) (term_tokens-append w.term [] (a_sign sign.Dot ∷ []))
     ∙ items-append w.logic w.items (a_sign sign.Certificate ∷ term_tokens w.term []) (a_sign sign.Dot ∷ [])))
     ∙ file_behind-step Certificate (logic_word w.logic ∷ items_tokens w.logic w.items (a_sign sign.Certificate ∷ term_tokens w.term [])) (a_sign sign.Dot)
     ∙ ap (λ s. step Certificate s (a_sign sign.Dot))
@@ -439,7 +440,7 @@ term-reaches expected earlier logic items cs tokens hs e live =
         record {
           spelled = behind-more logic items (a_sign sign.Certificate ∷ cs) (b.0 ++ dot) tokens e
               ∙ ap (λ l. logic_word logic ∷ items_tokens logic items (a_sign sign.Certificate ∷ l))
-              (sym (append_assoc cs b.0 dot) ∙ ap (λ l. l ++ dot) b.1.1.spelled ∙ sym (term-append b.1.0 [] dot));
+              (sym (append_assoc cs b.0 dot) ∙ ap (λ l. l ++ dot) b.1.1.spelled ∙ sym (term_tokens-append b.1.0 [] dot));
           of_logic = hs;
         },
       ),

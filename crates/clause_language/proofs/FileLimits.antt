@@ -12,12 +12,13 @@ use Rattle.fpc_terms.specs.Spot.{Spot, alone, in_arguments, tokens_to, done_toke
 use Rattle.fpc_terms.specs.Spot as spot
 use Rattle.fpc_terms.specs.Machine as term
 use Rattle.fpc_terms.specs.ReadTerm.{any_variable}
+use Rattle.fpc_terms.proofs.AnyTerm.{IsTermJudged, term-judged, term_limits-once, term_limits-step, term_limits-live}
 use Rattle.polarised_formulas.specs.declared.logic.Logic.{Logic}
 use Rattle.polarised_formulas.specs.declared.logic.Logic.TheVariants.{Lkf, Ljf}
 use Rattle.polarised_formulas.specs.Written.{logic_word}
 use Rattle.polarised_formulas.specs.Machine.{logic_of}
 use Rattle.polarised_formulas.proofs.ReadingLaws.{taken-refused, refused-once}
-use Rattle.polarised_formulas.proofs.ProblemLaws.{logic_of-word}
+use Rattle.polarised_formulas.proofs.ProblemLaws.{term-dot, logic_of-word}
 use Rattle.clause_language.specs.declared.file.FileKind.{FileKind}
 use Rattle.clause_language.specs.declared.file.FileKind.TheVariants.{Definition, Certificate}
 use Rattle.clause_language.specs.Written.{WrittenItem, items_tokens, AreItemsOf, IsDefinition, IsCertificate}
@@ -26,7 +27,6 @@ use Rattle.clause_language.specs.Limits as limits
 use Rattle.clause_language.specs.ClauseMachine as clause
 use Rattle.clause_language.specs.DeclarationMachine as declaring
 use Rattle.clause_language.specs.FileMachine.{FileState, start, at_item, in_declaration, in_clause, in_term, lost, begun_in, declared, claused, begun, dotted, read_on, step, is_other, within, begun_within, declared_within, claused_within, read_within, limited}
-use Rattle.clause_language.proofs.CopiedTermFiles.{IsTermJudged, term-judged, term_limits-once, term_limits-step, term_limits-live, term-dot}
 use Rattle.clause_language.proofs.ClauseLaws.{clause_behind, IsLiveClause, IsGoingClause, IsClauseJudged, clause-judged, clause_limits-going, clause_limits-once}
 use Rattle.clause_language.proofs.DeclarationLaws.{declaration_behind, IsLiveDeclaration, IsGoingDeclaration, IsDeclarationJudged, declaration-judged, declaration_limits-going, declaration_limits-once}
 use Rattle.clause_language.proofs.FileLaws.{file_behind, IsLiveFile, file_behind-step, items-append, Stands, at_start, at_items, within_declaration, within_clause, within_term, at_end, nowhere, stands, behind-declaration, behind-clause, behind-term, definition-once, certificate-once, definition_live-told, certificate_live-told}

@@ -19,7 +19,6 @@ use Rattle.fpc_terms.specs.declared.reader.TermReader.{TermReader}
 use Rattle.fpc_terms.proofs.ReadFacts.{Agrees-index_in}
 use Rattle.polarised_formulas.proofs.ReadFacts.{some-of, is-none}
 use Rattle.fpc_terms.proofs.TermLaws.{run-append}
-use Rattle.fpc_terms.proofs.TermReading.{whole-is}
 use Rattle.polarised_formulas.specs.declared.logic.Logic.{Logic}
 use Rattle.clause_language.specs.declared.certificate.Certificate.{Certificate as CertificateFile}
 use Rattle.clause_language.specs.declared.clause_reader.ClauseReader.{ClauseReader}
@@ -40,7 +39,7 @@ use Rattle.clause_language.specs.HoldingDeclaration.{HoldsDeclaration, TakesDecl
 use Rattle.clause_language.specs.HoldingFile.{AreTaken, HoldsItems, HoldsTerm, HoldsWholeTerm, HoldsFile, TakesFile, IsUnfinished, DefinitionOf, CertificateOf}
 use Rattle.clause_language.proofs.DeclarationReading.{mode_of, mode-told}
 use Rattle.clause_language.proofs.ClauseReading.{Judged, nowhere, arguments, variables, taken, judged}
-use Rattle.clause_language.proofs.ClauseStates.{variables_in-append}
+use Rattle.fpc_terms.proofs.TermReading.{whole-is, variables_in-append}
 use Rattle.clause_language.proofs.FileHolding.{Held, Took, by-item, by-declaration, by-clause, by-term, at-item, at-finished, items-grown}
 use Rattle.clause_language.proofs.FileTaking.{found-taken, takes-formula, takes-certificate, refuses-certificate, takes-clause, declaration-refused, takes-declaration, clause-refused, takes-in_clause, refuses-duplicate, takes-new_name}
 

@@ -4,15 +4,12 @@ pub mod ClauseLaws
 pub mod ClauseSound
 pub mod ClauseStates
 pub mod ClauseViable
-pub mod CopiedTerms
-pub mod CopiedFormulas
 pub mod DeclarationLaws
 pub mod Parameters
 pub mod ClauseReading
 pub mod FileLaws
 pub mod FileLimits
 pub mod FileReading
-pub mod CopiedTermFiles
 pub mod DeclarationReading
 pub mod FileHolding
 pub mod FileTaking

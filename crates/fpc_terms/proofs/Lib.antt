@@ -6,6 +6,7 @@ pub mod ScopeFacts
 pub mod States
 pub mod TermLaws
 pub mod TermReading
+pub mod AnyTerm
 pub mod BuilderFacts
 pub mod HoldingFacts
 pub mod PrintFacts
