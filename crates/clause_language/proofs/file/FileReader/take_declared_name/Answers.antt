@@ -12,4 +12,4 @@ pub returns-in_ok-number-in-Name-clause-taken : goal.returns-in_ok-number-in-Nam
 returns-in_ok-number-in-Name-clause-taken c = λ kind expected earlier logic items h.
     let e = found-taken c.args.self.now.taken c.in-Name.text.now c.find.result false c.find.ensures (sym c.is_some.ensures ∙ c.if-is_some.false) in
     let t = rw c.in-Name.is at (c.take.ensures.taken logic at_name h.3) in
-    rw c.in-Name.is (takes-new_name c.args.names.now kind expected earlier c.args.self.now logic items h c.in-Name.text.now c.take.result c.take.new.names c.number.new.self c.take.new.self c.take.ensures.names e (c.in_ok-number-in-Name.ensures tt).names t)
+    rw c.in-Name.is (takes-new_name c.args.names.now kind expected earlier c.args.self.now logic items h c.in-Name.text.now c.take.result c.take.new.names c.number.new.self c.take.new.self c.take.ensures.names e c.in_ok-number-in-Name.ensures.names t)
