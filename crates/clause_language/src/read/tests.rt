@@ -10,11 +10,11 @@ use std::test::Fail;
 /// What a file is refused for, or the text that it is printed as.
 #[derive(Clone, Copy)]
 enum Wanted {
-    Refused(Code, usize),
-    Printed(&'static [u8]),
+    Refuses(Code, usize),
+    Prints(&'static [u8]),
 }
 
-use Wanted::{Printed, Refused};
+use Wanted::{Prints, Refuses};
 
 /// Reads a definition, and prints it where it is one.
 fn check_definition(
@@ -26,15 +26,15 @@ fn check_definition(
 ) -> Result<(), OutOfMemory> {
     let mut names = Names::new(alloc);
     match (read_definition(alloc, &mut names, expected, text), wanted) {
-        (Ok(definition), Printed(printed)) => {
+        (Ok(definition), Prints(printed)) => {
             let found = print_definition(alloc, &names, &definition)?;
             assert_eq!(rt; found.as_slice(), printed);
         }
-        (Err(refusal), Refused(code, at)) => {
-            assert_eq!(rt; refusal, ParseRefusal::Refused(fpc_base::Refusal { code, at }));
+        (Err(refusal), Refuses(code, at)) => {
+            assert_eq!(rt; refusal, ParseRefusal::Refused(Refusal { code, at }));
         }
-        (Ok(_), Refused(_, _)) => panic!(rt; "read"),
-        (Err(_), Printed(_)) => panic!(rt; "refused"),
+        (Ok(_), Refuses(_, _)) => panic!(rt; "read"),
+        (Err(_), Prints(_)) => panic!(rt; "refused"),
     }
     Ok(())
 }
@@ -53,15 +53,15 @@ fn check_certificate(
         read_certificate(alloc, &mut names, expected, &definition.declared, text),
         wanted,
     ) {
-        (Ok(certificate), Printed(printed)) => {
+        (Ok(certificate), Prints(printed)) => {
             let found = print_certificate(alloc, &names, &certificate)?;
             assert_eq!(rt; found.as_slice(), printed);
         }
-        (Err(refusal), Refused(code, at)) => {
-            assert_eq!(rt; refusal, ParseRefusal::Refused(fpc_base::Refusal { code, at }));
+        (Err(refusal), Refuses(code, at)) => {
+            assert_eq!(rt; refusal, ParseRefusal::Refused(Refusal { code, at }));
         }
-        (Ok(_), Refused(_, _)) => panic!(rt; "read"),
-        (Err(_), Printed(_)) => panic!(rt; "refused"),
+        (Ok(_), Refuses(_, _)) => panic!(rt; "read"),
+        (Err(_), Prints(_)) => panic!(rt; "refused"),
     }
     Ok(())
 }
@@ -90,8 +90,8 @@ fn definitions_are_read_and_printed(rt: HostRuntime) -> Result<(), Fail> {
         (b"lkf p(X). q(X,Z). p.", b"lkf\np(V0).\nq(V0,V1).\np.\n"),
     ];
     for (text, printed) in table {
-        check_definition(&rt, rt.alloc(), None, text, Printed(printed))?;
-        check_definition(&rt, rt.alloc(), None, printed, Printed(printed))?;
+        check_definition(&rt, rt.alloc(), None, text, Prints(printed))?;
+        check_definition(&rt, rt.alloc(), None, printed, Prints(printed))?;
     }
     Ok(())
 }
@@ -123,17 +123,17 @@ fn definitions_are_refused(rt: HostRuntime) -> Result<(), Fail> {
         (b"lkf p(X) & q.", Code::BadByte, 9),
     ];
     for (text, code, at) in table {
-        check_definition(&rt, rt.alloc(), None, text, Refused(code, at))?;
+        check_definition(&rt, rt.alloc(), None, text, Refuses(code, at))?;
     }
     Ok(())
 }
 
 #[test]
 fn a_logic_may_be_expected(rt: HostRuntime) -> Result<(), Fail> {
-    let other = Refused(Code::WrongCalculus, 1);
+    let other = Refuses(Code::WrongCalculus, 1);
     check_definition(&rt, rt.alloc(), Some(Logic::Lkf), b" ljf p", other)?;
     check_definition(&rt, rt.alloc(), Some(Logic::Ljf), b" lkf", other)?;
-    check_definition(&rt, rt.alloc(), Some(Logic::Ljf), b"ljf", Printed(b"ljf\n"))?;
+    check_definition(&rt, rt.alloc(), Some(Logic::Ljf), b"ljf", Prints(b"ljf\n"))?;
     check_certificate(&rt, rt.alloc(), Some(Logic::Lkf), b" ljf !", other)?;
     Ok(())
 }
@@ -150,8 +150,8 @@ fn certificates_are_read_and_printed(rt: HostRuntime) -> Result<(), Fail> {
         ),
     ];
     for (text, printed) in table {
-        check_certificate(&rt, rt.alloc(), None, text, Printed(printed))?;
-        check_certificate(&rt, rt.alloc(), None, printed, Printed(printed))?;
+        check_certificate(&rt, rt.alloc(), None, text, Prints(printed))?;
+        check_certificate(&rt, rt.alloc(), None, printed, Prints(printed))?;
     }
     Ok(())
 }
@@ -169,43 +169,56 @@ fn certificates_are_refused(rt: HostRuntime) -> Result<(), Fail> {
         (b"lkf certificate formula.", Code::Unexpected, 16),
     ];
     for (text, code, at) in table {
-        check_certificate(&rt, rt.alloc(), None, text, Refused(code, at))?;
+        check_certificate(&rt, rt.alloc(), None, text, Refuses(code, at))?;
     }
     Ok(())
 }
 
-/// Puts so many arguments, the variables `X0` and on or the name `a`, behind other bytes.
-fn push_arguments(out: &mut Vec<u8>, from: u32, to: u32, named: bool) -> Result<(), AllocError> {
-    for k in from..to {
-        if k > from {
-            out.push(b',')?;
-        }
-        if named {
-            out.push(b'a')?;
-        } else {
-            out.extend_from_slice(&[b'X', b'a' + (k / 16) as u8, b'a' + (k % 16) as u8])?;
+/// Puts 16 different variables for each letter from the first to before the last behind other bytes, where each has a comma before it but the first.
+fn push_variables(out: &mut Vec<u8>, first: u8, last: u8) -> Result<(), AllocError> {
+    for letter in first..last {
+        for other in b'a'..b'q' {
+            if letter > first || other > b'a' {
+                out.push(b',')?;
+            }
+            out.extend_from_slice(&[b'X', letter, other])?;
         }
     }
     Ok(())
+}
+
+/// A clause with 240 variables in two atoms, and more arguments.
+fn text_of_variables(alloc: Global, more: &[u8]) -> Result<Vec<u8>, AllocError> {
+    let mut text = Vec::new(alloc);
+    text.extend_from_slice(b"lkf h :- p(")?;
+    push_variables(&mut text, b'a', b'i')?;
+    text.extend_from_slice(b"), q(")?;
+    push_variables(&mut text, b'i', b'p')?;
+    text.extend_from_slice(more)?;
+    text.extend_from_slice(b"). r(Y).")?;
+    Ok(text)
 }
 
 #[test]
 fn a_clause_has_at_most_255_variables(rt: HostRuntime) -> Result<(), Fail> {
-    for (most, wanted) in [(255, None), (256, Some(Code::ManyVariables))] {
-        let mut text = Vec::new(rt.alloc());
-        text.extend_from_slice(b"lkf h :- p(")?;
-        push_arguments(&mut text, 0, 128, false)?;
-        text.extend_from_slice(b"), q(")?;
-        push_arguments(&mut text, 128, most, false)?;
-        text.extend_from_slice(b"). r(Y).")?;
+    let table: [(&[u8], Option<(Code, usize)>); 3] = [
+        (b",A,B,C,D,E,F,G,H,I,J,K,L,M,N,O", None),
+        (b",A,B,C,D,E,F,G,H,I,J,K,L,M,N,O,A,Xab", None),
+        (
+            b",A,B,C,D,E,F,G,H,I,J,K,L,M,N,O,P",
+            Some((Code::ManyVariables, 1006)),
+        ),
+    ];
+    for (more, refused) in table {
+        let text = text_of_variables(rt.alloc(), more)?;
         let mut names = Names::new(rt.alloc());
-        match (read_definition(rt.alloc(), &mut names, None, text.as_slice()), wanted) {
+        let found = read_definition(rt.alloc(), &mut names, None, text.as_slice());
+        match (found, refused) {
             (Ok(_), None) => {}
-            (Err(ParseRefusal::Refused(refusal)), Some(code)) => {
-                assert_eq!(rt; refusal.code, code);
-                assert_eq!(rt; refusal.at, 11 + 128 * 4 + 4 + 127 * 4);
+            (Err(ParseRefusal::Refused(refusal)), Some((code, at))) => {
+                assert_eq!(rt; refusal, Refusal { code, at });
             }
-            _ => panic!(rt; "of {most} variables"),
+            _ => panic!(rt; "of a clause"),
         }
     }
     Ok(())
@@ -215,8 +228,10 @@ fn a_clause_has_at_most_255_variables(rt: HostRuntime) -> Result<(), Fail> {
 fn an_atom_has_at_most_255_arguments(rt: HostRuntime) -> Result<(), Fail> {
     for (count, refused) in [(255, false), (256, true)] {
         let mut text = Vec::new(rt.alloc());
-        text.extend_from_slice(b"lkf p(")?;
-        push_arguments(&mut text, 0, count, true)?;
+        text.extend_from_slice(b"lkf p(a")?;
+        for _ in 1..count {
+            text.extend_from_slice(b",a")?;
+        }
         text.extend_from_slice(b").")?;
         let mut names = Names::new(rt.alloc());
         let found = read_definition(rt.alloc(), &mut names, None, text.as_slice());
