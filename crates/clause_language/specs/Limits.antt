@@ -7,7 +7,7 @@ use Rattle.fpc_base.specs.Lexeme.{Lexeme, a_name, a_variable, a_sign}
 use Rattle.fpc_base.specs.Tokens.{is_one_of}
 use Rattle.fpc_terms.specs.Name.{AreDifferent}
 use Rattle.fpc_terms.specs.Written.{variables_in}
-use Rattle.fpc_terms.specs.Spot.{Spot, alone, in_arguments, in_term, tokens_to, done_at, IsAlone, TermLimits}
+use Rattle.fpc_terms.specs.Spot.{Spot, alone, in_arguments, in_term as in_a_term, tokens_to, done_at, IsAlone, TermLimits}
 use Rattle.fpc_terms.specs.ReadTerm.{any_variable}
 use Rattle.polarised_formulas.specs.declared.logic.Logic.{Logic}
 use Rattle.polarised_formulas.specs.declared.logic.Logic.TheVariants.{Lkf, Ljf}
@@ -34,7 +34,7 @@ tokens_to_atom (in_body head done) rest = atom_tokens head (a_sign sign.If ∷ d
 abbrev pub IsInside : Spot → Type 0
 IsInside alone = ⊥
 IsInside (in_arguments done) = ⊥
-IsInside (in_term x done spot) = IsAlone spot
+IsInside (in_a_term x done spot) = IsAlone spot
 
 -- the tokens of a clause lead to an argument of an atom, or of a term in it, behind n other arguments
 pub record LeadsIntoAtom (n : ℕ) (tokens : List Lexeme) : Type 0 where
