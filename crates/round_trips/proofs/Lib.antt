@@ -1,1 +1,2 @@
 pub mod VariableOrder
+pub mod TermPassing
