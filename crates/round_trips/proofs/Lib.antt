@@ -1,2 +1,5 @@
 pub mod VariableOrder
 pub mod TermPassing
+pub mod Copied
+pub mod Sizes
+pub mod ClausePassing
