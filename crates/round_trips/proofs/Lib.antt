@@ -3,3 +3,5 @@ pub mod TermPassing
 pub mod Copied
 pub mod Sizes
 pub mod ClausePassing
+pub mod CopiedPassed
+pub mod DeclarationPassing
