@@ -5,3 +5,6 @@ pub mod Sizes
 pub mod ClausePassing
 pub mod CopiedPassed
 pub mod DeclarationPassing
+pub mod Stubs
+pub mod LimitedSteps
+pub mod FilePassing

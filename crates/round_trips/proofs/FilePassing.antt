@@ -1,0 +1,134 @@
+-- The limits let the machine of files pass the tokens of a file exactly where its items are small and its declared names are new.
+use Rattle.std.proofs.Common.{◌≡◌, ℕ, ◌≤◌, Bool, true, false, if◌then◌else◌, List, [], ◌∷◌, ◌++◌, length, refl, ap, sym, subst, ◌∙◌, append_assoc, append-nil, Option, Some, None, Result, Ok, Err}
+use Rattle.fpc_base.specs.declared.refusal.Code.{Code}
+use Rattle.fpc_base.specs.declared.refusal.Code.TheVariants.{WrongCalculus}
+use Rattle.fpc_base.specs.declared.tokens.lexeme.Sign.TheVariants as sign
+use Rattle.fpc_base.specs.Lexeme.{Lexeme, a_name, a_sign, Item, says, fault}
+use Rattle.fpc_terms.specs.Written.{WrittenTerm, term_tokens}
+use Rattle.polarised_formulas.specs.declared.logic.Logic.{Logic}
+use Rattle.polarised_formulas.specs.declared.logic.Logic.TheVariants.{Lkf, Ljf}
+use Rattle.polarised_formulas.specs.Written.{logic_word}
+use Rattle.polarised_formulas.specs.Spoken.{Says}
+use Rattle.polarised_formulas.proofs.Small.{IsSmall}
+use Rattle.clause_language.specs.declared.file.FileKind.{FileKind}
+use Rattle.clause_language.specs.declared.file.FileKind.TheVariants.{Definition, Certificate}
+use Rattle.clause_language.specs.Written.{WrittenItem, declaration, a_clause, item_tokens, items_tokens, AreItemsOf}
+use Rattle.clause_language.specs.Limits.{declared_names}
+use Rattle.clause_language.specs.FileMachine.{FileState, start, at_item, finished, is_other, step, limited}
+use Rattle.round_trips.proofs.Sizes.{IsItemSmall, AreItemsSmall, AreNew}
+use Rattle.round_trips.proofs.ClausePassing.{Passes, pass-clause, passed-clause, pass-last_term, passed-last_term}
+use Rattle.round_trips.proofs.DeclarationPassing.{pass-declaration, passed-declaration}
+use Rattle.round_trips.proofs.LimitedSteps.{limited-step}
+use Rattle.round_trips.proofs.Stubs.{read_on_from, read_items}
+
+-- the names of the declared formulas, and one more
+names-declared : (done : List WrittenItem) (i : WrittenItem) → declared_names (done ++ i ∷ []) ≡ declared_names done ++ declared_names (i ∷ [])
+names-declared [] i = sym (append-nil (declared_names (i ∷ []))) ∙ append-nil (declared_names (i ∷ []))
+names-declared (declaration x ps w ∷ done) i = ap (λ l. x ∷ l) (names-declared done i)
+names-declared (a_clause c ∷ done) i = names-declared done i
+
+names-behind : (earlier : List (List ℕ)) (done : List WrittenItem) (i : WrittenItem)
+    → earlier ++ declared_names (done ++ i ∷ []) ≡ (earlier ++ declared_names done) ++ declared_names (i ∷ [])
+names-behind earlier done i = ap (λ l. earlier ++ l) (names-declared done i) ∙ sym (append_assoc earlier (declared_names done) (declared_names (i ∷ [])))
+
+module _ (kind : FileKind) (expected : Option Logic) (earlier : List (List ℕ)) (goal : FileState) (logic : Logic) where
+  abbrev To : FileState → List Lexeme → Type 0
+  To s cs = Passes kind expected earlier s cs goal
+
+  -- items within the limits pass
+  pub pass-items : (items done : List WrittenItem) (rest : List Lexeme) → AreItemsOf logic items → AreItemsSmall items
+      → AreNew (earlier ++ declared_names done) (declared_names items) → To (at_item logic (done ++ items)) rest → To (at_item logic done) (items_tokens logic items rest)
+  pass-items [] done rest of_logic small new h = subst (λ l. To (at_item logic l) rest) (append-nil done) h
+  pass-items (declaration x ps w ∷ items) done rest of_logic small new h =
+      let i : WrittenItem = declaration x ps w in
+      pass-declaration kind expected earlier goal logic done x ps w (items_tokens logic items rest) of_logic.0 small.0 new.0
+      (pass-items items (done ++ i ∷ []) rest of_logic.1 small.1 (subst (λ l. AreNew l (declared_names items)) (sym (names-behind earlier done i)) new.1)
+      (subst (λ l. To (at_item logic l) rest) (sym (append_assoc done (i ∷ []) items)) h))
+  pass-items (a_clause c ∷ items) done rest of_logic small new h =
+      let i : WrittenItem = a_clause c in
+      pass-clause kind expected earlier goal logic done c (items_tokens logic items rest) small.0.0 small.0.1
+      (pass-items items (done ++ i ∷ []) rest of_logic.1 small.1
+      (subst (λ l. AreNew l (declared_names items)) (sym (names-behind earlier done i ∙ append-nil (earlier ++ declared_names done))) new)
+      (subst (λ l. To (at_item logic l) rest) (sym (append_assoc done (i ∷ []) items)) h))
+
+  -- items that pass are within the limits
+  pub passed-items : (items done : List WrittenItem) (rest : List Lexeme) → AreItemsOf logic items → To (at_item logic done) (items_tokens logic items rest)
+      → AreItemsSmall items × AreNew (earlier ++ declared_names done) (declared_names items) × To (at_item logic (done ++ items)) rest
+  passed-items [] done rest of_logic h = (tt, tt, subst (λ l. To (at_item logic l) rest) (sym (append-nil done)) h)
+  passed-items (declaration x ps w ∷ items) done rest of_logic h =
+      let i : WrittenItem = declaration x ps w in
+      let first = passed-declaration kind expected earlier goal logic done x ps w (items_tokens logic items rest) of_logic.0 h in
+      let later = passed-items items (done ++ i ∷ []) rest of_logic.1 first.2 in
+      (
+        (first.0, later.0),
+        (first.1, subst (λ l. AreNew l (declared_names items)) (names-behind earlier done i) later.1),
+        subst (λ l. To (at_item logic l) rest) (append_assoc done (i ∷ []) items) later.2,
+      )
+  passed-items (a_clause c ∷ items) done rest of_logic h =
+      let i : WrittenItem = a_clause c in
+      let first = passed-clause kind expected earlier goal logic done c (items_tokens logic items rest) h in
+      let later = passed-items items (done ++ i ∷ []) rest of_logic.1 first.2 in
+      (
+        ((first.0, first.1), later.0),
+        subst (λ l. AreNew l (declared_names items)) (names-behind earlier done i ∙ append-nil (earlier ++ declared_names done)) later.1,
+        subst (λ l. To (at_item logic l) rest) (append_assoc done (i ∷ []) items) later.2,
+      )
+
+-- the word of the logic
+module _ (kind : FileKind) (expected : Option Logic) (earlier : List (List ℕ)) (goal : FileState) where
+  word-tested : (other : Bool) (logic : Logic) (u : FileState) → (if other then Err WrongCalculus else Ok (at_item logic [])) ≡ Ok u → other ≡ false
+  word-tested true logic u h = cc
+  word-tested false logic u h = refl
+
+  pub pass-word : (logic : Logic) (rest : List Lexeme) → is_other expected logic ≡ false → Passes kind expected earlier (at_item logic []) rest goal
+      → Passes kind expected earlier start (logic_word logic ∷ rest) goal
+  pass-word Lkf rest other h = (rw other refl, h)
+  pass-word Ljf rest other h = (rw other refl, h)
+
+  pub passed-word : (logic : Logic) (rest : List Lexeme) → Passes kind expected earlier start (logic_word logic ∷ rest) goal
+      → (is_other expected logic ≡ false) × Passes kind expected earlier (at_item logic []) rest goal
+  passed-word Lkf rest h = (word-tested (is_other expected Lkf) Lkf (at_item Lkf []) h.0, h.1)
+  passed-word Ljf rest h = (word-tested (is_other expected Ljf) Ljf (at_item Ljf []) h.0, h.1)
+
+-- the word `certificate` and the term
+pub pass-certificate_term : (expected : Option Logic) (earlier : List (List ℕ)) (logic : Logic) (items : List WrittenItem) (t : WrittenTerm) → IsSmall t
+    → Passes Certificate expected earlier (at_item logic items) (a_sign sign.Certificate ∷ term_tokens t (a_sign sign.Dot ∷ [])) (finished logic items t)
+pass-certificate_term expected earlier logic items t small =
+    (refl, pass-last_term Certificate expected earlier (finished logic items t) logic items t small refl)
+
+pub passed-certificate_term : (expected : Option Logic) (earlier : List (List ℕ)) (goal : FileState) (logic : Logic) (items : List WrittenItem) (t : WrittenTerm)
+    → Passes Certificate expected earlier (at_item logic items) (a_sign sign.Certificate ∷ term_tokens t (a_sign sign.Dot ∷ [])) goal → IsSmall t
+passed-certificate_term expected earlier goal logic items t h = (passed-last_term Certificate expected earlier goal logic items t h.1).0
+
+-- the machine along items is the machine along their tokens
+pub read-passes : (kind : FileKind) (expected : Option Logic) (earlier : List (List ℕ)) (tokens : List Lexeme) (items : List Item) (s t : FileState)
+    → Says tokens items → Passes kind expected earlier s tokens t → read_items kind expected earlier s items ≡ Ok t
+read-passes kind expected earlier [] [] s t said h = ap Ok h
+read-passes kind expected earlier (c ∷ cs) (says d at ∷ items) s t said h =
+    let one : limited kind expected earlier s d ≡ Ok (step kind s c) = subst (λ e. limited kind expected earlier s e ≡ Ok (step kind s c)) said.0 h.0 in
+    ap (λ r. read_on_from r (λ u. read_items kind expected earlier u items)) one ∙ read-passes kind expected earlier cs items (step kind s c) t said.1 h.1
+read-passes kind expected earlier _ _ s t said h = absurd said
+
+-- what was passed of items
+pub record Passed (kind : FileKind) (expected : Option Logic) (earlier : List (List ℕ)) (s : FileState) (items : List Item) (t : FileState) : Type 0 where
+  pub tokens : List Lexeme
+  pub said : Says tokens items
+  pub passes : Passes kind expected earlier s tokens t
+
+pub passes-read : (kind : FileKind) (expected : Option Logic) (earlier : List (List ℕ)) (items : List Item) (s t : FileState)
+    → read_items kind expected earlier s items ≡ Ok t → Passed kind expected earlier s items t
+passes-read kind expected earlier [] s t h = record { tokens = []; said = tt; passes = cc }
+passes-read kind expected earlier (fault r ∷ items) s t h = cc
+passes-read kind expected earlier (says c at ∷ items) s t h =
+    by_case (limited kind expected earlier s c) refl h (λ u g. passes-read kind expected earlier items u t g) where
+  by_case : (r : Result FileState Code) → limited kind expected earlier s c ≡ r → read_on_from r (λ u. read_items kind expected earlier u items) ≡ Ok t
+      → ((u : FileState) → read_items kind expected earlier u items ≡ Ok t → Passed kind expected earlier u items t) → Passed kind expected earlier s (says c at ∷ items) t
+  by_case (Err code) e g next = cc
+  by_case (Ok u) e g next =
+      let same : step kind s c ≡ u = limited-step kind expected earlier s c u e in
+      let p = next u g in
+      record {
+        tokens = c ∷ p.tokens;
+        said = (refl, p.said);
+        passes = (e ∙ ap Ok (sym same), subst (λ v. Passes kind expected earlier v p.tokens t) (sym same) p.passes);
+      }
