@@ -15,7 +15,8 @@ use Rattle.clause_language.specs.declared.file.FileKind.TheVariants.{Definition,
 use Rattle.clause_language.specs.Written.{WrittenItem, declaration, a_clause, item_tokens, items_tokens, AreItemsOf}
 use Rattle.clause_language.specs.Limits.{declared_names}
 use Rattle.clause_language.specs.FileMachine.{FileState, start, at_item, finished, is_other, step, limited}
-use Rattle.round_trips.proofs.Sizes.{IsItemSmall, AreItemsSmall, AreNew}
+use Rattle.round_trips.proofs.Sizes.{AreItemsSmall}
+use Rattle.round_trips.specs.Printable.{AreNew}
 use Rattle.round_trips.proofs.ClausePassing.{Passes, pass-clause, passed-clause, pass-last_term, passed-last_term}
 use Rattle.round_trips.proofs.DeclarationPassing.{pass-declaration, passed-declaration}
 use Rattle.round_trips.proofs.LimitedSteps.{limited-step}

@@ -8,3 +8,5 @@ pub mod DeclarationPassing
 pub mod Stubs
 pub mod LimitedSteps
 pub mod FilePassing
+pub mod Parameters
+pub mod MeantFacts

@@ -1,6 +1,5 @@
 -- How large the items of a file are.
-use Rattle.std.proofs.Common.{◌≡◌, ℕ, ◌≤◌, false, List, [], ◌∷◌, ◌++◌, length}
-use Rattle.fpc_base.specs.Tokens.{is_one_of}
+use Rattle.std.proofs.Common.{ℕ, ◌≤◌, List, [], ◌∷◌, length}
 use Rattle.fpc_terms.specs.Written.{WrittenArgs, application, no_words, words}
 use Rattle.polarised_formulas.proofs.Small.{written_depth, AreSmall, HasSmall}
 use Rattle.clause_language.specs.Written.{WrittenAtom, WrittenClause, WrittenItem, declaration, a_clause}
@@ -28,8 +27,3 @@ IsItemSmall (a_clause c) = AreSmall (written_atoms c) × (length (texts_of_claus
 abbrev pub AreItemsSmall : List WrittenItem → Type 0
 AreItemsSmall [] = Unit {0}
 AreItemsSmall (i ∷ is) = IsItemSmall i × AreItemsSmall is
-
--- each of the texts is different from some names and from the texts before it
-abbrev pub AreNew : List (List ℕ) → List (List ℕ) → Type 0
-AreNew names [] = Unit {0}
-AreNew names (x ∷ xs) = (is_one_of names x ≡ false) × AreNew (names ++ x ∷ []) xs

@@ -18,6 +18,7 @@ use Rattle.fpc_terms.proofs.Places.{got_push, got_before, got_last, is_one_of-go
 use Rattle.polarised_formulas.specs.WrittenOf.{IsNamed, AreNamed}
 use Rattle.polarised_formulas.proofs.Meant.{name_in-stands}
 use Rattle.round_trips.specs.Spelled.{variable_text, spelled_term, spelled_args}
+use Rattle.round_trips.specs.Printable.{Below}
 use Rattle.round_trips.specs.Order.{variables_to, variables_to_all, IsOrdered, AreOrdered}
 
 -- the different variables up to the end of a written term, behind earlier ones
@@ -238,9 +239,6 @@ mutual
   variables_to_all-grows (arg t ts) n = omega (arith, variables_to-grows t n, variables_to_all-grows ts (variables_to t n))
 
 -- each variable is below the count
-abbrev pub Below : ℕ → ℕ → Type 0
-Below n v = v < n
-
 mutual
   pub below-term : (m : ℕ) (t : Term) (n : ℕ) → IsOrdered t n → variables_to t n ≤ m → Each Never Never (Below m) t
   below-term m (eigen k) n o le = absurd o

@@ -1,2 +1,4 @@
 pub mod Spelled
 pub mod Order
+pub mod EachName
+pub mod Printable
