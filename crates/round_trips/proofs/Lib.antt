@@ -10,3 +10,4 @@ pub mod LimitedSteps
 pub mod FilePassing
 pub mod Parameters
 pub mod MeantFacts
+pub mod ClauseMeant
