@@ -11,3 +11,6 @@ pub mod FilePassing
 pub mod Parameters
 pub mod MeantFacts
 pub mod ClauseMeant
+pub mod NumberedTexts
+pub mod FormulaScan
+pub mod FileScan
