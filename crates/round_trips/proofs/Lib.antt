@@ -14,3 +14,6 @@ pub mod ClauseMeant
 pub mod NumberedTexts
 pub mod FormulaScan
 pub mod FileScan
+pub mod NamesSaid
+pub mod ItemsMeant
+pub mod RoundTrip
