@@ -141,10 +141,13 @@ module _ (kind : FileKind) (expected : Option Logic) (earlier : List (List ℕ))
       let us : List (List ℕ) = texts_to_all b.args vs in
       let later : Behind head ((done ++ a ∷ []) ++ b ∷ more) rest = subst (λ l. Behind head l rest) (sym (append_assoc done (a ∷ []) (b ∷ more))) h in (
         refl,
-        (refl, pass-named (Some 255) (InAtom (in_body head (done ++ a ∷ []))) (in-atom (in_body head (done ++ a ∷ []))) b.text b.args alone vs (more_atom_tokens more rest)
-            (more-behind more rest) small.0.0 small.0.1
-            (IsAtMost-less (Some 255) (length us) (length (texts_to_all (atoms_as_words more) us)) (texts_to_all-longer (atoms_as_words more) us) le)
-            (pass-atoms head (done ++ a ∷ []) b more us rest small.1 le later)),
+        (
+          refl,
+          pass-named (Some 255) (InAtom (in_body head (done ++ a ∷ []))) (in-atom (in_body head (done ++ a ∷ []))) b.text b.args alone vs (more_atom_tokens more rest)
+              (more-behind more rest) small.0.0 small.0.1
+              (IsAtMost-less (Some 255) (length us) (length (texts_to_all (atoms_as_words more) us)) (texts_to_all-longer (atoms_as_words more) us) le)
+              (pass-atoms head (done ++ a ∷ []) b more us rest small.1 le later),
+        ),
       )
 
   pass-body : (head : WrittenAtom) (body : List WrittenAtom) (vs : List (List ℕ)) (rest : List Lexeme) → AreSmall (atoms_as_words body)
@@ -154,10 +157,13 @@ module _ (kind : FileKind) (expected : Option Logic) (earlier : List (List ℕ))
   pass-body head (b ∷ more) vs rest small le h =
       let us : List (List ℕ) = texts_to_all b.args vs in (
         refl,
-        (refl, pass-named (Some 255) (InAtom (in_body head [])) (in-atom (in_body head [])) b.text b.args alone vs (more_atom_tokens more rest)
-            (more-behind more rest) small.0.0 small.0.1
-            (IsAtMost-less (Some 255) (length us) (length (texts_to_all (atoms_as_words more) us)) (texts_to_all-longer (atoms_as_words more) us) le)
-            (pass-atoms head [] b more us rest small.1 le h)),
+        (
+          refl,
+          pass-named (Some 255) (InAtom (in_body head [])) (in-atom (in_body head [])) b.text b.args alone vs (more_atom_tokens more rest)
+              (more-behind more rest) small.0.0 small.0.1
+              (IsAtMost-less (Some 255) (length us) (length (texts_to_all (atoms_as_words more) us)) (texts_to_all-longer (atoms_as_words more) us) le)
+              (pass-atoms head [] b more us rest small.1 le h),
+        ),
       )
 
   first-name : (k : FileKind) (x : List ℕ) → begun k logic items (a_name x) ≡ in_clause logic items (in_atom at_head [] (term.named x alone))
@@ -171,8 +177,8 @@ module _ (kind : FileKind) (expected : Option Logic) (earlier : List (List ℕ))
       let us : List (List ℕ) = texts_to_all c.head.args [] in
       let inner : InAtom at_head [] (term.named c.head.text alone) (args_tokens c.head.args (body_tokens c.body rest)) =
       pass-named (Some 255) (InAtom at_head) (in-atom at_head) c.head.text c.head.args alone [] (body_tokens c.body rest) (body-behind c.body rest) small.0.0 small.0.1
-          (IsAtMost-less (Some 255) (length us) (length (texts_to_all (atoms_as_words c.body) us)) (texts_to_all-longer (atoms_as_words c.body) us) le)
-          (pass-body c.head c.body us rest small.1 le h) in
+      (IsAtMost-less (Some 255) (length us) (length (texts_to_all (atoms_as_words c.body) us)) (texts_to_all-longer (atoms_as_words c.body) us) le)
+      (pass-body c.head c.body us rest small.1 le h) in
       let F : FileState → Type 0 = λ s. (clause_within s ≡ Ok s) × To s (args_tokens c.head.args (body_tokens c.body rest)) in
       subst F (sym (first-name kind c.head.text)) (refl, inner)
     where
@@ -187,7 +193,7 @@ module _ (kind : FileKind) (expected : Option Logic) (earlier : List (List ℕ))
   passed-atoms head done a (b ∷ more) vs rest le h =
       let us : List (List ℕ) = texts_to_all b.args vs in
       let first = passed-named (Some 255) (InAtom (in_body head (done ++ a ∷ []))) (in-atom (in_body head (done ++ a ∷ []))) b.text b.args alone vs (more_atom_tokens more rest)
-          (more-behind more rest) le h.1.1 in
+      (more-behind more rest) le h.1.1 in
       let later = passed-atoms head (done ++ a ∷ []) b more us rest first.2 first.3 in
       (((first.0, first.1), later.0), later.1, subst (λ l. Behind head l rest) (append_assoc done (a ∷ []) (b ∷ more)) later.2)
 
@@ -198,7 +204,7 @@ module _ (kind : FileKind) (expected : Option Logic) (earlier : List (List ℕ))
   passed-body head (b ∷ more) vs rest le h =
       let us : List (List ℕ) = texts_to_all b.args vs in
       let first = passed-named (Some 255) (InAtom (in_body head [])) (in-atom (in_body head [])) b.text b.args alone vs (more_atom_tokens more rest)
-          (more-behind more rest) le h.1.1 in
+      (more-behind more rest) le h.1.1 in
       let later = passed-atoms head [] b more us rest first.2 first.3 in
       (((first.0, first.1), later.0), later.1, later.2)
 

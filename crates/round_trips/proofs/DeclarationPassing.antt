@@ -141,9 +141,9 @@ module _ (kind : FileKind) (expected : Option Logic) (earlier : List (List ℕ))
         → InFormula (formula.wants whole) (formula_tokens logic w (a_sign sign.Dot ∷ rest)) → (written_depth w ≤ 10000) × HasSmall w × Behind x parameters w rest
     back-formula w rest known l h =
         let all = all-back (formula_tokens logic w []) (formula.wants whole) w rest (run-ends logic parameters w whole known l)
-            (subst (InFormula (formula.wants whole)) (dotted-tokens w rest) h) in
+        (subst (InFormula (formula.wants whole)) (dotted-tokens w rest) h) in
         let inside = passed-formula logic parameters w whole (a_sign sign.Dot ∷ []) known l tt (omega arith)
-            (subst (Fits logic parameters (formula.wants whole)) (sym (dotted-tokens w [])) all.0) in
+        (subst (Fits logic parameters (formula.wants whole)) (sym (dotted-tokens w [])) all.0) in
         let deep = inside.deep in
         (omega (arith, deep), inside.small, all.1)
 
@@ -167,7 +167,7 @@ module _ (kind : FileKind) (expected : Option Logic) (earlier : List (List ℕ))
       let size : length (done ++ y ∷ []) ≡ suc (length done) = omega (arith, length-append done (y ∷ [])) in
       let later : To (in_declaration logic items (behind_parameter x (done ++ y ∷ []))) (more_parameter_tokens ys rest) =
       pass-parameters x (done ++ y ∷ []) ys rest (subst AreDifferent (sym seam) d) (omega (arith, size, le))
-          (subst (λ l. To (in_declaration logic items (at_defined x l)) rest) (sym seam) h) in
+      (subst (λ l. To (in_declaration logic items (at_defined x l)) rest) (sym seam) h) in
       (rw room refl, one-parameter x done y (more_parameter_tokens ys rest) new later)
 
   first-word : (k : FileKind) → begun k logic items (a_sign sign.Formula) ≡ in_declaration logic items at_name
@@ -189,10 +189,12 @@ module _ (kind : FileKind) (expected : Option Logic) (earlier : List (List ℕ))
       pass-name x (a_sign sign.Defined ∷ formula_tokens logic w (a_sign sign.Dot ∷ rest)) new
       (refl, pass-formula x [] w rest of_logic.1 of_logic.2 small.1 small.2 h)
   pass-declaration x (y ∷ ys) w rest of_logic small new h =
-      pass-name x (parameter_tokens (y ∷ ys) (a_sign sign.Defined ∷ formula_tokens logic w (a_sign sign.Dot ∷ rest))) new
-      (refl, one-parameter x [] y (more_parameter_tokens ys (a_sign sign.Defined ∷ formula_tokens logic w (a_sign sign.Dot ∷ rest))) refl
-      (pass-parameters x (y ∷ []) ys (a_sign sign.Defined ∷ formula_tokens logic w (a_sign sign.Dot ∷ rest)) of_logic.0 (let few = small.0 in omega (arith, few))
-      (refl, pass-formula x (y ∷ ys) w rest of_logic.1 of_logic.2 small.1 small.2 h)))
+      pass-name x (parameter_tokens (y ∷ ys) (a_sign sign.Defined ∷ formula_tokens logic w (a_sign sign.Dot ∷ rest))) new (
+        refl,
+        one-parameter x [] y (more_parameter_tokens ys (a_sign sign.Defined ∷ formula_tokens logic w (a_sign sign.Dot ∷ rest))) refl
+            (pass-parameters x (y ∷ []) ys (a_sign sign.Defined ∷ formula_tokens logic w (a_sign sign.Dot ∷ rest)) of_logic.0 (let few = small.0 in omega (arith, few))
+            (refl, pass-formula x (y ∷ ys) w rest of_logic.1 of_logic.2 small.1 small.2 h)),
+      )
 
   -- what passes is within the limits
   comma-test : (full : Bool) (x : List ℕ) (done : List (List ℕ)) (u : FileState)

@@ -59,8 +59,7 @@ module _ (kind : FileKind) (expected : Option Logic) (earlier : List (List ℕ))
   passed-items (declaration x ps w ∷ items) done rest of_logic h =
       let i : WrittenItem = declaration x ps w in
       let first = passed-declaration kind expected earlier goal logic done x ps w (items_tokens logic items rest) of_logic.0 h in
-      let later = passed-items items (done ++ i ∷ []) rest of_logic.1 first.2 in
-      (
+      let later = passed-items items (done ++ i ∷ []) rest of_logic.1 first.2 in (
         (first.0, later.0),
         (first.1, subst (λ l. AreNew l (declared_names items)) (names-behind earlier done i) later.1),
         subst (λ l. To (at_item logic l) rest) (append_assoc done (i ∷ []) items) later.2,
@@ -68,8 +67,7 @@ module _ (kind : FileKind) (expected : Option Logic) (earlier : List (List ℕ))
   passed-items (a_clause c ∷ items) done rest of_logic h =
       let i : WrittenItem = a_clause c in
       let first = passed-clause kind expected earlier goal logic done c (items_tokens logic items rest) h in
-      let later = passed-items items (done ++ i ∷ []) rest of_logic.1 first.2 in
-      (
+      let later = passed-items items (done ++ i ∷ []) rest of_logic.1 first.2 in (
         ((first.0, first.1), later.0),
         subst (λ l. AreNew l (declared_names items)) (names-behind earlier done i ∙ append-nil (earlier ++ declared_names done)) later.1,
         subst (λ l. To (at_item logic l) rest) (append_assoc done (i ∷ []) items) later.2,
@@ -122,14 +120,14 @@ passes-read kind expected earlier [] s t h = record { tokens = []; said = tt; pa
 passes-read kind expected earlier (fault r ∷ items) s t h = cc
 passes-read kind expected earlier (says c at ∷ items) s t h =
     by_case (limited kind expected earlier s c) refl h (λ u g. passes-read kind expected earlier items u t g) where
-  by_case : (r : Result FileState Code) → limited kind expected earlier s c ≡ r → read_on_from r (λ u. read_items kind expected earlier u items) ≡ Ok t
-      → ((u : FileState) → read_items kind expected earlier u items ≡ Ok t → Passed kind expected earlier u items t) → Passed kind expected earlier s (says c at ∷ items) t
-  by_case (Err code) e g next = cc
-  by_case (Ok u) e g next =
-      let same : step kind s c ≡ u = limited-step kind expected earlier s c u e in
-      let p = next u g in
-      record {
-        tokens = c ∷ p.tokens;
-        said = (refl, p.said);
-        passes = (e ∙ ap Ok (sym same), subst (λ v. Passes kind expected earlier v p.tokens t) (sym same) p.passes);
-      }
+      by_case : (r : Result FileState Code) → limited kind expected earlier s c ≡ r → read_on_from r (λ u. read_items kind expected earlier u items) ≡ Ok t
+          → ((u : FileState) → read_items kind expected earlier u items ≡ Ok t → Passed kind expected earlier u items t) → Passed kind expected earlier s (says c at ∷ items) t
+      by_case (Err code) e g next = cc
+      by_case (Ok u) e g next =
+          let same : step kind s c ≡ u = limited-step kind expected earlier s c u e in
+          let p = next u g in
+          record {
+            tokens = c ∷ p.tokens;
+            said = (refl, p.said);
+            passes = (e ∙ ap Ok (sym same), subst (λ v. Passes kind expected earlier v p.tokens t) (sym same) p.passes);
+          }

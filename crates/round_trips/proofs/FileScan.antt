@@ -196,7 +196,7 @@ module _ (names : List (List ℕ)) where
   pub Says-certificate_text : (c : Certificate) → AreDeclaredPrintable names c.logic c.declared → AreClausesPrintable names c.clauses
       → c.variables ≤ 2 ^ 64 → Each Never Never (Below c.variables) c.term → IsNamed names c.term
       → Says (logic_word c.logic ∷ items_tokens c.logic (spelled_items names c.declared c.clauses) (a_sign sign.Certificate ∷ term_tokens (spelled_term names c.term) (a_sign sign.Dot ∷ [])))
-          (items_of (certificate_text names c))
+      (items_of (certificate_text names c))
   Says-certificate_text c p q le b named =
       let last : List Lexeme = term_tokens (spelled_term names c.term) (a_sign sign.Dot ∷ []) in
       scans-file c.logic c.declared c.clauses (term_line names c.term) (a_sign sign.Certificate ∷ last) p q

@@ -63,8 +63,7 @@ module _ (names : List (List ℕ)) where
   of_logic-declaration : (logic : Logic) (d : DeclaredFormula) → IsDeclarationPrintable names logic d → IsItemOf logic (spelled_declaration names d)
   of_logic-declaration logic d p =
       let at_most = p.at_most in
-      let deep = p.deep in
-      (
+      let deep = p.deep in (
         AreDifferent-parameters_from d.parameters (omega (arith, at_most)),
         bound-written_of names d.parameters 0 d.formula (omega (arith, deep)) p.is_scoped,
         IsWrittenIn-written_of names logic 0 d.formula p.in_logic,
@@ -72,8 +71,7 @@ module _ (names : List (List ℕ)) where
 
   small-declaration : (logic : Logic) (d : DeclaredFormula) → IsDeclarationPrintable names logic d → IsItemSmall (spelled_declaration names d)
   small-declaration logic d p =
-      let at_most = p.at_most in
-      (
+      let at_most = p.at_most in (
         omega (arith, at_most, length-parameters_from 0 d.parameters),
         rw (written_depth-written_of names 0 d.formula) p.deep,
         HasSmall-written_of names 0 d.formula p.few,

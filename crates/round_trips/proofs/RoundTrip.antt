@@ -110,8 +110,8 @@ definition-text_read expected names number d agrees p =
     let goal : FileState = at_item d.logic items in
     let passes : Passes kind.Definition expected [] start (logic_word d.logic ∷ items_tokens d.logic items []) goal =
     pass-word kind.Definition expected [] goal d.logic (items_tokens d.logic items []) p.is_expected
-        (pass-items kind.Definition expected [] goal d.logic items [] [] (of_logic-spelled names d.logic d.declared d.clauses formulas)
-        (small-spelled names d.logic d.declared d.clauses formulas rules) (new-spelled names [] d.declared d.clauses p.new) refl) in
+    (pass-items kind.Definition expected [] goal d.logic items [] [] (of_logic-spelled names d.logic d.declared d.clauses formulas)
+    (small-spelled names d.logic d.declared d.clauses formulas rules) (new-spelled names [] d.declared d.clauses p.new) refl) in
     record {
       written = spelled_definition names d;
       read = definition-reads expected (items_of (definition_text names d)) goal (spelled_definition names d)
@@ -128,7 +128,7 @@ within-definition expected items w tokens said is_whole read =
     let p = passes-read kind.Definition expected [] items start s.0 s.1.0 in
     let spelled : p.tokens ≡ logic_word w.logic ∷ items_tokens w.logic w.items [] = Says-once p.tokens tokens items p.said said ∙ is_whole.spelled in
     let word = passed-word kind.Definition expected [] s.0 w.logic (items_tokens w.logic w.items [])
-        (subst (λ l. Passes kind.Definition expected [] start l s.0) spelled p.passes) in
+    (subst (λ l. Passes kind.Definition expected [] start l s.0) spelled p.passes) in
     let passed = passed-items kind.Definition expected [] s.0 w.logic w.items [] [] is_whole.of_logic word.1 in
     record { is_expected = word.0; small = passed.0; new = passed.1 }
 
@@ -138,7 +138,7 @@ printable-definition expected names number bytes w agrees read known =
     let r = IsSaid-read IsDefinition (DefinitionLimits expected) [] (items_of bytes) w read in
     let said : Says (logic_word w.logic ∷ items_tokens w.logic w.items []) (items_of bytes) = subst (λ l. Says l (items_of bytes)) r.is_whole.spelled r.said in
     printable-items expected [] names number agrees w.logic w.items r.is_whole.of_logic (within-definition expected (items_of bytes) w r.tokens r.said r.is_whole read)
-        known (EachNameOfItems-said bytes w.logic w.items [] said)
+    known (EachNameOfItems-said bytes w.logic w.items [] said)
 
 pub definition-printable : ReadDefinitionIsPrintable
 definition-printable expected names number bytes d agrees r =
@@ -169,9 +169,9 @@ certificate-text_read expected earlier names number c agrees lt p =
     let below : Each Never Never (Below c.variables) c.term = below-term c.variables c.term 0 p.ordered (omega (arith, counted)) in
     let passes : Passes kind.Certificate expected earlier start (logic_word c.logic ∷ items_tokens c.logic items last) goal =
     pass-word kind.Certificate expected earlier goal c.logic (items_tokens c.logic items last) p.items.is_expected
-        (pass-items kind.Certificate expected earlier goal c.logic items [] last (of_logic-spelled names c.logic c.declared c.clauses formulas)
-        (small-spelled names c.logic c.declared c.clauses formulas rules) (new-spelled names earlier c.declared c.clauses p.items.new)
-        (pass-certificate_term expected earlier c.logic items t (small-spelled_term names c.term p.few))) in
+    (pass-items kind.Certificate expected earlier goal c.logic items [] last (of_logic-spelled names c.logic c.declared c.clauses formulas)
+    (small-spelled names c.logic c.declared c.clauses formulas rules) (new-spelled names earlier c.declared c.clauses p.items.new)
+    (pass-certificate_term expected earlier c.logic items t (small-spelled_term names c.term p.few))) in
     let vs : term_variables t ≡ numbered_texts c.variables = term_variables-spelled names c.term c.variables p.ordered counted lt in
     let the_term : term_meant number (numbered (index_in (numbered_texts c.variables))) t ≡ c.term =
     term_meant-spelled names number agrees c.variables c.term (omega (arith, lt)) below p.named in
@@ -199,7 +199,7 @@ within-certificate expected earlier items w tokens said is_whole read =
     let p = passes-read kind.Certificate expected earlier items start s.0 s.1.0 in
     let spelled : p.tokens ≡ logic_word w.logic ∷ items_tokens w.logic w.items last = Says-once p.tokens tokens items p.said said ∙ is_whole.spelled in
     let word = passed-word kind.Certificate expected earlier s.0 w.logic (items_tokens w.logic w.items last)
-        (subst (λ l. Passes kind.Certificate expected earlier start l s.0) spelled p.passes) in
+    (subst (λ l. Passes kind.Certificate expected earlier start l s.0) spelled p.passes) in
     let passed = passed-items kind.Certificate expected earlier s.0 w.logic w.items [] last is_whole.of_logic word.1 in
     record {
       items = record { is_expected = word.0; small = passed.0; new = subst (λ l. AreNew l (declared_names w.items)) (append-nil earlier) passed.1 };
@@ -218,7 +218,7 @@ printable-certificate expected earlier names number bytes w agrees read known te
     let vs : term_variables w.term ≡ texts_to w.term [] = term_variables-texts w.term in
     let ordered : IsOrdered (term_meant number leaf w.term) 0 × (variables_to (term_meant number leaf w.term) 0 ≡ length (term_variables w.term)) =
     subst (λ us. IsOrdered (term_meant number (numbered (index_in us)) w.term) 0 × (variables_to (term_meant number (numbered (index_in us)) w.term) 0 ≡ length us)) (sym vs)
-        (ordered-whole_term number w.term) in
+    (ordered-whole_term number w.term) in
     record {
       items = printable-items expected earlier names number agrees w.logic w.items r.is_whole.of_logic within.items known (EachNameOfItems-said bytes w.logic w.items last said);
       named = named-term_meant names number agrees leaf (λ x. tt) w.term term_known (EachName-said_term bytes w.logic w.items w.term (a_sign sign.Dot ∷ []) said);

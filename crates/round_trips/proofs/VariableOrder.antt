@@ -118,17 +118,17 @@ module _ (number : List ℕ → ℕ) (all : List (List ℕ)) (different : AreDif
   ordered-variable vs x g =
       elim (cases_Bool (is_one_of vs x)) [
         | inl e ↦
-          let same : with_text vs x ≡ vs = rw e refl in
-          let at : index_in all x ≡ index_in vs x = index_in-all vs x g ∙ ap (λ us. index_in us x) same in
-          let lt : index_in vs x < length vs = slice_get_within vs (index_in vs x) x (got-index_in vs x e) in
-          let k = known-variable (index_in all x) (length vs) (omega (arith, at, lt)) in
-          (k.0, k.1 ∙ ap length (sym same))
+            let same : with_text vs x ≡ vs = rw e refl in
+            let at : index_in all x ≡ index_in vs x = index_in-all vs x g ∙ ap (λ us. index_in us x) same in
+            let lt : index_in vs x < length vs = slice_get_within vs (index_in vs x) x (got-index_in vs x e) in
+            let k = known-variable (index_in all x) (length vs) (omega (arith, at, lt)) in
+            (k.0, k.1 ∙ ap length (sym same))
         | inr e ↦
-          let more : with_text vs x ≡ vs ++ x ∷ [] = rw e refl in
-          let at : index_in all x ≡ length vs = index_in-all vs x g ∙ ap (λ us. index_in us x) more ∙ index_in-push vs x e in
-          let n = next-variable (index_in all x) (length vs) at in
-          let size : length (vs ++ x ∷ []) ≡ suc (length vs) = omega (arith, length-append vs (x ∷ [])) in
-          (n.0, n.1 ∙ sym size ∙ ap length (sym more))
+            let more : with_text vs x ≡ vs ++ x ∷ [] = rw e refl in
+            let at : index_in all x ≡ length vs = index_in-all vs x g ∙ ap (λ us. index_in us x) more ∙ index_in-push vs x e in
+            let n = next-variable (index_in all x) (length vs) at in
+            let size : length (vs ++ x ∷ []) ≡ suc (length vs) = omega (arith, length-append vs (x ∷ [])) in
+            (n.0, n.1 ∙ sym size ∙ ap length (sym more))
       ]
 
   mutual
@@ -146,8 +146,7 @@ module _ (number : List ℕ → ℕ) (all : List (List ℕ)) (different : AreDif
         let us : List (List ℕ) = texts_to t vs in
         let first = ordered-term t vs (Grows-then us (texts_to_all ts us) all (Grows-texts_to_all ts us) g) in
         let later = ordered-args ts us g in
-        let them : Args = args_meant number (numbered (index_in all)) ts in
-        (
+        let them : Args = args_meant number (numbered (index_in all)) ts in (
           (first.0, subst (AreOrdered them) (sym first.1) later.0),
           ap (variables_to_all them) first.1 ∙ later.1,
         )
