@@ -4,9 +4,8 @@ use Rattle.fpc_base.specs.declared.tokens.TokenKind.TheVariants.{Name}
 use Rattle.fpc_base.specs.Tokens.{HasForm}
 use Rattle.fpc_base.specs.Lexeme.{Lexeme}
 use Rattle.fpc_terms.specs.Term.{Term, Args, eigen, bound, variable, app, no_args, arg, count, EachArg, Never}
-use Rattle.fpc_terms.specs.Text.{name_in}
 use Rattle.fpc_terms.specs.Name.{Agrees, HasName, index_in}
-use Rattle.fpc_terms.specs.Written.{WrittenTerm, WrittenArgs, application, no_words, words, args_meant, variables_in}
+use Rattle.fpc_terms.specs.Written.{words, args_meant, variables_in}
 use Rattle.fpc_terms.specs.ReadTerm.{numbered}
 use Rattle.polarised_formulas.specs.WrittenOf.{IsNamed, AreNamed}
 use Rattle.polarised_formulas.specs.EachName.{EachName, EachNameOf}
@@ -15,14 +14,14 @@ use Rattle.polarised_formulas.proofs.Small.{words_count, IsSmall, AreSmall}
 use Rattle.polarised_formulas.proofs.Meant.{name_in-stands}
 use Rattle.clause_language.specs.declared.atom.Atom.{Atom}
 use Rattle.clause_language.specs.declared.clause.Clause.{Clause}
-use Rattle.clause_language.specs.Written.{WrittenAtom, WrittenClause, more_atom_tokens, body_tokens, clause_tokens}
+use Rattle.clause_language.specs.Written.{WrittenAtom, WrittenClause, more_atom_tokens, body_tokens}
 use Rattle.clause_language.specs.Meant.{terms_in, clause_variables, atom_meant, clause_meant}
 use Rattle.clause_language.specs.Text.{args_of}
 use Rattle.round_trips.specs.Spelled.{spelled_term, spelled_args, spelled_atom, spelled_clause}
 use Rattle.round_trips.specs.Order.{variables_to, variables_to_all, IsOrdered, AreOrdered, term_of_atom, atoms_as_args, atoms_of}
-use Rattle.round_trips.specs.EachName.{EachNameOfAtom, EachNameOfAtoms}
+use Rattle.round_trips.specs.EachName.{EachNameOfAtoms}
 use Rattle.round_trips.specs.Printable.{Below, IsClausePrintable}
-use Rattle.round_trips.proofs.VariableOrder.{texts_to, texts_to_all, variables_in-term, variables_in-args, ordered-whole_args, numbered_texts, length-numbered_texts, below-args, texts_to_all-spelled, number-of, args_meant-spelled}
+use Rattle.round_trips.proofs.VariableOrder.{texts_to_all, variables_in-args, ordered-whole_args, numbered_texts, length-numbered_texts, below-args, texts_to_all-spelled, number-of, args_meant-spelled}
 use Rattle.round_trips.proofs.MeantFacts.{named-args_meant, few-args_meant}
 use Rattle.round_trips.proofs.Sizes.{atoms_as_words, written_atoms, texts_of_clause}
 
@@ -52,9 +51,13 @@ atom_names : (P : List ℕ → Type 0) (atoms : List WrittenAtom) → EachNameOf
 atom_names P [] h = tt
 atom_names P (a ∷ more) h = (h.0, atom_names P more h.1)
 
+-- an atom by its variables
+abbrev meant_atom : (List ℕ → ℕ) → List (List ℕ) → WrittenAtom → Atom
+meant_atom number variables a = atom_meant number variables a
+
 -- READ: what a clause means, by any numbers of its variables
 module _ (number : List ℕ → ℕ) (variables : List (List ℕ)) where
-  atoms-meant : (atoms : List WrittenAtom) → atoms_as_args (map (atom_meant number variables) atoms) ≡ args_meant number (numbered (index_in variables)) (atoms_as_words atoms)
+  atoms-meant : (atoms : List WrittenAtom) → atoms_as_args (map (meant_atom number variables) atoms) ≡ args_meant number (numbered (index_in variables)) (atoms_as_words atoms)
   atoms-meant [] = refl
   atoms-meant (a ∷ more) = rw (args_of-terms_in (args_meant number (numbered (index_in variables)) a.args), atoms-meant more) refl
 
@@ -136,12 +139,12 @@ module _ (names : List (List ℕ)) where
   -- a spelled clause means the clause
   module _ (number : List ℕ → ℕ) (agrees : Agrees number names) (m : ℕ) (le : m ≤ 2 ^ 64) where
     atom_meant-spelled : (a : Atom) → EachArg Never Never (Below m) (args_of a.arguments) → IsNamed names (term_of_atom a)
-        → atom_meant number (numbered_texts m) (spelled_atom names a) ≡ a
+        → meant_atom number (numbered_texts m) (spelled_atom names a) ≡ a
     atom_meant-spelled a b named =
         rw (number-of names number agrees a.name named.0, args_meant-spelled names number agrees m (args_of a.arguments) le b named.1) (rw (terms_in-args_of a.arguments) refl)
 
     atoms_meant-spelled : (atoms : List Atom) → EachArg Never Never (Below m) (atoms_as_args atoms) → AreNamed names (atoms_as_args atoms)
-        → map (atom_meant number (numbered_texts m)) (map (spelled_atom names) atoms) ≡ atoms
+        → map (meant_atom number (numbered_texts m)) (map (spelled_atom names) atoms) ≡ atoms
     atoms_meant-spelled [] b named = refl
     atoms_meant-spelled (a ∷ more) b named = rw (atom_meant-spelled a b.0 named.0, atoms_meant-spelled more b.1 named.1) refl
 
@@ -153,6 +156,6 @@ module _ (names : List (List ℕ)) where
       let vs : clause_variables (spelled_clause names c) ≡ numbered_texts c.variables = clause_variables-texts (spelled_clause names c) ∙ texts-spelled_clause c h in
       let below : EachArg Never Never (Below c.variables) (atoms_of c) = below-args c.variables (atoms_of c) 0 h.ordered (omega (arith, counted)) in
       let named = h.named in
-      let head : atom_meant number (numbered_texts c.variables) (spelled_atom names c.head) ≡ c.head = atom_meant-spelled number agrees c.variables le c.head below.0 named.0 in
-      let body : map (atom_meant number (numbered_texts c.variables)) (map (spelled_atom names) c.body) ≡ c.body = atoms_meant-spelled number agrees c.variables le c.body below.1 named.1 in
+      let head : meant_atom number (numbered_texts c.variables) (spelled_atom names c.head) ≡ c.head = atom_meant-spelled number agrees c.variables le c.head below.0 named.0 in
+      let body : map (meant_atom number (numbered_texts c.variables)) (map (spelled_atom names) c.body) ≡ c.body = atoms_meant-spelled number agrees c.variables le c.body below.1 named.1 in
       rw vs (rw (head, body, length-numbered_texts c.variables) refl)

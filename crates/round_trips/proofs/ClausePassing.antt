@@ -1,24 +1,24 @@
 -- The limits let the machine of files pass the tokens of a clause, and of a certificate's term, exactly where they are small.
-use Rattle.std.proofs.Common.{◌≡◌, ℕ, suc, ◌≤◌, Bool, true, false, List, [], ◌∷◌, ◌++◌, length, refl, ap, sym, subst, ◌∙◌, arith, append_assoc, Option, Some, None, Result, Ok, Err}
+use Rattle.std.proofs.Common.{◌≡◌, ℕ, ◌≤◌, Bool, true, false, List, [], ◌∷◌, ◌++◌, length, refl, ap, sym, subst, arith, append_assoc, Option, Some, None, Result, Ok}
 use Rattle.fpc_base.specs.declared.refusal.Code.{Code}
 use Rattle.fpc_base.specs.declared.tokens.lexeme.Sign.TheVariants as sign
-use Rattle.fpc_base.specs.Lexeme.{Lexeme, a_name, a_variable, a_sign}
-use Rattle.fpc_terms.specs.Written.{WrittenTerm, WrittenArgs, variable_word, application, no_words, words, term_tokens, args_tokens, variables_in}
+use Rattle.fpc_base.specs.Lexeme.{Lexeme, a_name, a_sign}
+use Rattle.fpc_terms.specs.Written.{WrittenTerm, application, no_words, term_tokens, args_tokens, variables_in}
 use Rattle.fpc_terms.specs.Spot.{Spot, alone, in_arguments, in_term as in_a_term}
 use Rattle.fpc_terms.specs.Machine as term
 use Rattle.fpc_terms.specs.ReadTerm.{any_variable}
 use Rattle.fpc_terms.proofs.TermLaws.{IsBehind}
 use Rattle.polarised_formulas.specs.declared.logic.Logic.{Logic}
-use Rattle.polarised_formulas.proofs.Small.{words_count, IsSmall, AreSmall}
+use Rattle.polarised_formulas.proofs.Small.{IsSmall, AreSmall}
 use Rattle.clause_language.specs.declared.file.FileKind.{FileKind}
 use Rattle.clause_language.specs.declared.file.FileKind.TheVariants.{Definition, Certificate}
-use Rattle.clause_language.specs.Written.{WrittenAtom, WrittenClause, WrittenItem, a_clause, atom_tokens, more_atom_tokens, body_tokens, clause_tokens}
+use Rattle.clause_language.specs.Written.{WrittenAtom, WrittenClause, WrittenItem, a_clause, more_atom_tokens, body_tokens, clause_tokens}
 use Rattle.clause_language.specs.Limits.{AtomPlace, at_head, in_body}
-use Rattle.clause_language.specs.ClauseMachine.{ClauseState, at_atom, in_atom, whole_atom, clause_of, gone_on, gone_on_within, clause_start}
+use Rattle.clause_language.specs.ClauseMachine.{ClauseState, in_atom, whole_atom, clause_of, gone_on, gone_on_within}
 use Rattle.clause_language.specs.ClauseMachine as clause
-use Rattle.clause_language.specs.FileMachine.{FileState, within, start, at_item, in_declaration, in_clause, in_term, finished, lost, claused, claused_within, read_on, read_within, begun, step, limited}
-use Rattle.round_trips.proofs.VariableOrder.{texts_to, texts_to_all}
-use Rattle.round_trips.proofs.TermPassing.{IsAtMost, IsAtMost-less, texts_to_all-longer, Embeds, pass-term, pass-named, passed-term, passed-named}
+use Rattle.clause_language.specs.FileMachine.{FileState, within, at_item, in_clause, in_term, finished, claused, claused_within, read_on, read_within, begun, step, limited}
+use Rattle.round_trips.proofs.VariableOrder.{texts_to_all}
+use Rattle.round_trips.proofs.TermPassing.{IsAtMost-less, texts_to_all-longer, Embeds, pass-term, pass-named, passed-term, passed-named}
 use Rattle.round_trips.proofs.Sizes.{atoms_as_words, written_atoms, texts_of_clause}
 use Rattle.round_trips.proofs.Copied.{term-dot}
 

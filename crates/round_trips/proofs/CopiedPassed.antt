@@ -1,8 +1,7 @@
 -- What passes of a formula is within the limits: lemmas that another crate keeps to itself.
-use Rattle.std.proofs.Common.{◌≡◌, ℕ, suc, ◌+◌, ◌<◌, ◌≤◌, Bool, true, false, if◌then◌else◌, List, [], ◌∷◌, ◌++◌, length, refl, ap, sym, subst, arith, Some, Ok}
+use Rattle.std.proofs.Common.{◌≡◌, ℕ, suc, ◌+◌, ◌<◌, ◌≤◌, Bool, true, false, if◌then◌else◌, List, [], ◌∷◌, length, subst, arith}
 use Rattle.fpc_base.specs.declared.tokens.lexeme.Sign.TheVariants as sign
-use Rattle.fpc_base.specs.Lexeme.{Lexeme, a_name, a_variable, a_sign, Item}
-use Rattle.fpc_base.specs.Reading.{ReadsAll}
+use Rattle.fpc_base.specs.Lexeme.{Lexeme, a_name, a_variable, a_sign}
 use Rattle.fpc_terms.specs.Written.{WrittenTerm, WrittenArgs, variable_word, application, no_words, words, term_tokens, args_tokens, more_tokens, IsKnown, AreKnown}
 use Rattle.fpc_terms.specs.Spot.{Spot, in_arguments, in_term}
 use Rattle.fpc_terms.specs.Machine as term
@@ -14,18 +13,12 @@ use Rattle.polarised_formulas.specs.declared.logic.Polarity.TheVariants.{Positiv
 use Rattle.polarised_formulas.specs.declared.connective.Joiner.{Joiner}
 use Rattle.polarised_formulas.specs.declared.connective.Binder.{Binder}
 use Rattle.polarised_formulas.specs.declared.connective.Binder.TheVariants.{ForAll, Exists}
-use Rattle.polarised_formulas.specs.Written.{WrittenFormula, true_unit, false_unit, literal, pair, bind, formula_tokens, mark_tokens, joiner_sign, binder_sign, IsJoinerOf, IsFalseOf, IsBound, IsWrittenIn, is_known, WrittenProblem, IsProblem, logic_word}
-use Rattle.polarised_formulas.specs.Place.{Place, whole, in_first, in_second, under, scope_at, nesting, ProblemLimits}
-use Rattle.polarised_formulas.specs.Machine.{FormulaState, wants, named, in_atom, has, stuck, joined, within_atom, step, run, whole_of, is_deep, is_full, within, ProblemState, start, reading as reading_of, problem_step, limited_problem, read_within}
-use Rattle.polarised_formulas.proofs.States.{IsLive}
-use Rattle.polarised_formulas.proofs.Sound.{live-run}
-use Rattle.polarised_formulas.proofs.Complete.{joiner_of-joiner_sign, joiner-behind, run-ends}
-use Rattle.polarised_formulas.proofs.FormulaLaws.{whole-live}
-use Rattle.polarised_formulas.proofs.ProblemLaws.{formula-append, step-dot, start-word, reading-step}
-use Rattle.polarised_formulas.specs.Spoken.{Says}
+use Rattle.polarised_formulas.specs.Written.{WrittenFormula, true_unit, false_unit, literal, pair, bind, formula_tokens, mark_tokens, joiner_sign, binder_sign, IsJoinerOf, IsFalseOf, IsBound, IsWrittenIn, is_known}
+use Rattle.polarised_formulas.specs.Place.{Place, in_first, in_second, under, scope_at, nesting}
+use Rattle.polarised_formulas.specs.Machine.{wants, named, in_atom, has, stuck, joined, within_atom, is_deep}
+use Rattle.polarised_formulas.proofs.Complete.{joiner_of-joiner_sign, joiner-behind}
 use Rattle.polarised_formulas.proofs.Small.{written_depth, words_count, IsSmall, AreSmall, HasSmall}
 use Rattle.polarised_formulas.proofs.Fits.{Fits, less-than}
-use Rattle.polarised_formulas.proofs.Takes.{TakesAll, Taken-read}
 
 module _ (logic : Logic) (parameters : List (List ℕ)) (positive : Bool) (x : List ℕ) (p : Place) where
   abbrev FitsIn : term.TermState → List Lexeme → Type 0

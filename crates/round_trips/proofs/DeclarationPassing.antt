@@ -1,5 +1,5 @@
 -- The limits let the machine of files pass the tokens of a declared formula exactly where it is small and its name is new.
-use Rattle.std.proofs.Common.{◌≡◌, ℕ, suc, ◌+◌, ◌≤◌, Bool, true, false, if◌then◌else◌, nat_eq, List, [], ◌∷◌, ◌++◌, length, refl, ap, sym, subst, ◌∙◌, arith, append_assoc, append-nil, length-append, Option, Some, None, Result, Ok, Err}
+use Rattle.std.proofs.Common.{◌≡◌, ℕ, suc, ◌+◌, ◌≤◌, Bool, true, false, if◌then◌else◌, nat_eq, List, [], ◌∷◌, ◌++◌, length, refl, ap, sym, subst, arith, append_assoc, append-nil, length-append, Option, Some, Ok, Err}
 use Rattle.std.specs.List.{slice_get}
 use Rattle.std.proofs.lemmas.Option.{slice_get_within}
 use Rattle.fpc_base.specs.declared.refusal.Code.TheVariants.{ManyArguments}
@@ -23,9 +23,9 @@ use Rattle.clause_language.specs.declared.file.FileKind.{FileKind}
 use Rattle.clause_language.specs.declared.file.FileKind.TheVariants.{Definition, Certificate}
 use Rattle.clause_language.specs.Written.{WrittenItem, declaration, more_parameter_tokens, parameter_tokens, item_tokens, IsItemOf}
 use Rattle.clause_language.specs.Limits.{declared_names}
-use Rattle.clause_language.specs.DeclarationMachine.{DeclarationState, at_name, behind_name, at_parameter, behind_parameter, at_defined, in_formula, ended, stuck}
+use Rattle.clause_language.specs.DeclarationMachine.{DeclarationState, at_name, behind_name, at_parameter, behind_parameter, at_defined, in_formula, stuck}
 use Rattle.clause_language.specs.DeclarationMachine as declaring
-use Rattle.clause_language.specs.FileMachine.{FileState, at_item, in_declaration, declared, declared_within, begun, within, step, limited}
+use Rattle.clause_language.specs.FileMachine.{FileState, at_item, in_declaration, declared, declared_within, begun, within, step}
 use Rattle.round_trips.proofs.TermPassing.{not-equal}
 use Rattle.round_trips.proofs.ClausePassing.{Passes}
 use Rattle.round_trips.proofs.Sizes.{IsItemSmall}

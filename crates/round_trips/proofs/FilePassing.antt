@@ -1,26 +1,22 @@
 -- The limits let the machine of files pass the tokens of a file exactly where its items are small and its declared names are new.
-use Rattle.std.proofs.Common.{◌≡◌, ℕ, ◌≤◌, Bool, true, false, if◌then◌else◌, List, [], ◌∷◌, ◌++◌, length, refl, ap, sym, subst, ◌∙◌, append_assoc, append-nil, Option, Some, None, Result, Ok, Err}
-use Rattle.fpc_base.specs.declared.refusal.Code.{Code}
+use Rattle.std.proofs.Common.{◌≡◌, ℕ, Bool, true, false, if◌then◌else◌, List, [], ◌∷◌, ◌++◌, refl, ap, sym, subst, ◌∙◌, append_assoc, append-nil, Option, Ok, Err}
 use Rattle.fpc_base.specs.declared.refusal.Code.TheVariants.{WrongCalculus}
 use Rattle.fpc_base.specs.declared.tokens.lexeme.Sign.TheVariants as sign
-use Rattle.fpc_base.specs.Lexeme.{Lexeme, a_name, a_sign, Item, says, fault}
+use Rattle.fpc_base.specs.Lexeme.{Lexeme, a_sign}
 use Rattle.fpc_terms.specs.Written.{WrittenTerm, term_tokens}
 use Rattle.polarised_formulas.specs.declared.logic.Logic.{Logic}
 use Rattle.polarised_formulas.specs.declared.logic.Logic.TheVariants.{Lkf, Ljf}
 use Rattle.polarised_formulas.specs.Written.{logic_word}
-use Rattle.polarised_formulas.specs.Spoken.{Says}
 use Rattle.polarised_formulas.proofs.Small.{IsSmall}
 use Rattle.clause_language.specs.declared.file.FileKind.{FileKind}
-use Rattle.clause_language.specs.declared.file.FileKind.TheVariants.{Definition, Certificate}
-use Rattle.clause_language.specs.Written.{WrittenItem, declaration, a_clause, item_tokens, items_tokens, AreItemsOf}
+use Rattle.clause_language.specs.declared.file.FileKind.TheVariants.{Certificate}
+use Rattle.clause_language.specs.Written.{WrittenItem, declaration, a_clause, items_tokens, AreItemsOf}
 use Rattle.clause_language.specs.Limits.{declared_names}
-use Rattle.clause_language.specs.FileMachine.{FileState, start, at_item, finished, is_other, step, limited}
+use Rattle.clause_language.specs.FileMachine.{FileState, start, at_item, finished, is_other}
 use Rattle.round_trips.proofs.Sizes.{AreItemsSmall}
 use Rattle.round_trips.specs.Printable.{AreNew}
 use Rattle.round_trips.proofs.ClausePassing.{Passes, pass-clause, passed-clause, pass-last_term, passed-last_term}
 use Rattle.round_trips.proofs.DeclarationPassing.{pass-declaration, passed-declaration}
-use Rattle.round_trips.proofs.LimitedSteps.{limited-step}
-use Rattle.round_trips.proofs.Stubs.{read_on_from, read_items}
 
 -- the names of the declared formulas, and one more
 names-declared : (done : List WrittenItem) (i : WrittenItem) → declared_names (done ++ i ∷ []) ≡ declared_names done ++ declared_names (i ∷ [])
@@ -98,36 +94,3 @@ pass-certificate_term expected earlier logic items t small =
 pub passed-certificate_term : (expected : Option Logic) (earlier : List (List ℕ)) (goal : FileState) (logic : Logic) (items : List WrittenItem) (t : WrittenTerm)
     → Passes Certificate expected earlier (at_item logic items) (a_sign sign.Certificate ∷ term_tokens t (a_sign sign.Dot ∷ [])) goal → IsSmall t
 passed-certificate_term expected earlier goal logic items t h = (passed-last_term Certificate expected earlier goal logic items t h.1).0
-
--- the machine along items is the machine along their tokens
-pub read-passes : (kind : FileKind) (expected : Option Logic) (earlier : List (List ℕ)) (tokens : List Lexeme) (items : List Item) (s t : FileState)
-    → Says tokens items → Passes kind expected earlier s tokens t → read_items kind expected earlier s items ≡ Ok t
-read-passes kind expected earlier [] [] s t said h = ap Ok h
-read-passes kind expected earlier (c ∷ cs) (says d at ∷ items) s t said h =
-    let one : limited kind expected earlier s d ≡ Ok (step kind s c) = subst (λ e. limited kind expected earlier s e ≡ Ok (step kind s c)) said.0 h.0 in
-    ap (λ r. read_on_from r (λ u. read_items kind expected earlier u items)) one ∙ read-passes kind expected earlier cs items (step kind s c) t said.1 h.1
-read-passes kind expected earlier _ _ s t said h = absurd said
-
--- what was passed of items
-pub record Passed (kind : FileKind) (expected : Option Logic) (earlier : List (List ℕ)) (s : FileState) (items : List Item) (t : FileState) : Type 0 where
-  pub tokens : List Lexeme
-  pub said : Says tokens items
-  pub passes : Passes kind expected earlier s tokens t
-
-pub passes-read : (kind : FileKind) (expected : Option Logic) (earlier : List (List ℕ)) (items : List Item) (s t : FileState)
-    → read_items kind expected earlier s items ≡ Ok t → Passed kind expected earlier s items t
-passes-read kind expected earlier [] s t h = record { tokens = []; said = tt; passes = cc }
-passes-read kind expected earlier (fault r ∷ items) s t h = cc
-passes-read kind expected earlier (says c at ∷ items) s t h =
-    by_case (limited kind expected earlier s c) refl h (λ u g. passes-read kind expected earlier items u t g) where
-      by_case : (r : Result FileState Code) → limited kind expected earlier s c ≡ r → read_on_from r (λ u. read_items kind expected earlier u items) ≡ Ok t
-          → ((u : FileState) → read_items kind expected earlier u items ≡ Ok t → Passed kind expected earlier u items t) → Passed kind expected earlier s (says c at ∷ items) t
-      by_case (Err code) e g next = cc
-      by_case (Ok u) e g next =
-          let same : step kind s c ≡ u = limited-step kind expected earlier s c u e in
-          let p = next u g in
-          record {
-            tokens = c ∷ p.tokens;
-            said = (refl, p.said);
-            passes = (e ∙ ap Ok (sym same), subst (λ v. Passes kind expected earlier v p.tokens t) (sym same) p.passes);
-          }

@@ -1,12 +1,12 @@
 -- The text of a definition or a certificate says the tokens that it spells, and nothing else.
-use Rattle.std.proofs.Common.{◌≡◌, ℕ, zero, suc, ◌+◌, ◌^◌, ◌<◌, ◌≤◌, true, List, [], ◌∷◌, ◌++◌, codes, map, refl, arith}
+use Rattle.std.proofs.Common.{◌≡◌, ℕ, zero, suc, ◌+◌, ◌^◌, ◌≤◌, true, List, [], ◌∷◌, ◌++◌, codes, map, refl, arith}
 use Rattle.std.specs.Fmt.{decimal}
 use Rattle.fpc_base.specs.declared.tokens.TokenKind.TheVariants.{Word, Symbol}
 use Rattle.fpc_base.specs.declared.tokens.lexeme.Sign.TheVariants as sign
 use Rattle.fpc_base.specs.Lexeme.{Lexeme, a_name, a_variable, a_sign, items_of}
 use Rattle.fpc_terms.specs.Term.{Term, Args, eigen, bound, variable, app, no_args, arg, Each, EachArg, Never}
 use Rattle.fpc_terms.specs.Text.{Leaves, name_in, plain_leaves, term_before, args_before, more_before}
-use Rattle.fpc_terms.specs.Written.{WrittenTerm, term_tokens, args_tokens, more_tokens}
+use Rattle.fpc_terms.specs.Written.{term_tokens, args_tokens, more_tokens}
 use Rattle.polarised_formulas.specs.declared.logic.Logic.{Logic}
 use Rattle.polarised_formulas.specs.declared.logic.Logic.TheVariants.{Lkf, Ljf}
 use Rattle.polarised_formulas.specs.Text.{named_style, formula_before, logic_text}
@@ -20,11 +20,11 @@ use Rattle.clause_language.specs.declared.declaration.DeclaredFormula.{DeclaredF
 use Rattle.clause_language.specs.declared.definition.Definition.{Definition}
 use Rattle.clause_language.specs.declared.certificate.Certificate.{Certificate}
 use Rattle.clause_language.specs.Written.{WrittenItem, more_atom_tokens, body_tokens, clause_tokens, more_parameter_tokens, parameter_tokens, item_tokens, items_tokens}
-use Rattle.clause_language.specs.Text.{args_of, more_atoms_before, body_before, clause_before, parameter_text, more_parameters_before, parameters_before, declaration_before, declared_before, clauses_before, file_before, definition_text, term_line, certificate_text}
+use Rattle.clause_language.specs.Text.{more_atoms_before, body_before, clause_before, parameter_text, more_parameters_before, parameters_before, declaration_before, declared_before, clauses_before, file_before, definition_text, term_line, certificate_text}
 use Rattle.round_trips.specs.Spelled.{spelled_term, spelled_args, spelled_atom, spelled_clause, parameters_from, spelled_declaration, spelled_clauses, spelled_declared, spelled_items}
-use Rattle.round_trips.specs.Order.{variables_to_all, term_of_atom, atoms_as_args, atoms_of}
-use Rattle.round_trips.specs.Printable.{Below, IsClausePrintable, AreClausesPrintable, IsDeclarationPrintable, AreDeclaredPrintable}
-use Rattle.round_trips.proofs.VariableOrder.{below-term, below-args}
+use Rattle.round_trips.specs.Order.{term_of_atom, atoms_as_args, atoms_of}
+use Rattle.round_trips.specs.Printable.{Below, AreClausesPrintable, IsDeclarationPrintable, AreDeclaredPrintable}
+use Rattle.round_trips.proofs.VariableOrder.{below-args}
 use Rattle.round_trips.proofs.NumberedTexts.{scans-parameter, scans-numbered}
 use Rattle.round_trips.proofs.FormulaScan.{scans-formula}
 

@@ -1,7 +1,7 @@
 -- The text of a formula with parameters says the tokens of its written formula.
-use Rattle.std.proofs.Common.{◌≡◌, ℕ, suc, ◌+◌, ◌-◌, ◌^◌, ◌<◌, ◌≤◌, Bool, true, false, List, [], ◌∷◌, ◌++◌, codes, refl, arith, append_assoc}
+use Rattle.std.proofs.Common.{◌≡◌, ℕ, suc, ◌+◌, ◌-◌, ◌^◌, ◌<◌, ◌≤◌, Bool, true, false, List, ◌∷◌, ◌++◌, codes, refl, arith, append_assoc}
 use Rattle.std.specs.Fmt.{decimal}
-use Rattle.fpc_base.specs.Lexeme.{Lexeme, a_name, a_variable, a_sign, items_of}
+use Rattle.fpc_base.specs.Lexeme.{Lexeme, a_name, a_variable, a_sign}
 use Rattle.fpc_base.specs.declared.tokens.lexeme.Sign.TheVariants as sign
 use Rattle.fpc_terms.specs.Term.{Term, Args, eigen, bound, variable, app, no_args, arg, Each, EachArg, Never}
 use Rattle.fpc_terms.specs.Text.{Leaves, term_before, args_before, more_before, name_in}
@@ -10,14 +10,13 @@ use Rattle.polarised_formulas.specs.declared.logic.Logic.{Logic}
 use Rattle.polarised_formulas.specs.declared.logic.Logic.TheVariants.{Lkf, Ljf}
 use Rattle.polarised_formulas.specs.declared.logic.Polarity.{Polarity}
 use Rattle.polarised_formulas.specs.declared.logic.Polarity.TheVariants.{Positive, Negative}
-use Rattle.polarised_formulas.specs.Formula.{Formula, truth, falsity, atom, conj, disj, implies, for_all, exists, EachInside, Tied, IsClosed}
-use Rattle.polarised_formulas.specs.Text.{named_leaves, named_style, formula_before, problem_text, logic_text, operator_before, conj_text, disj_text, truth_text, falsity_text, mark_text}
+use Rattle.polarised_formulas.specs.Formula.{Formula, truth, falsity, atom, conj, disj, implies, for_all, exists, EachInside, Tied}
+use Rattle.polarised_formulas.specs.Text.{named_leaves, named_style, formula_before, operator_before, conj_text, disj_text, truth_text, falsity_text, mark_text}
 use Rattle.polarised_formulas.specs.declared.connective.Joiner.TheVariants.{And, Or}
-use Rattle.polarised_formulas.specs.Written.{formula_tokens, joiner_sign, true_sign, false_sign, mark_tokens, logic_word}
+use Rattle.polarised_formulas.specs.Written.{formula_tokens, joiner_sign, true_sign, false_sign, mark_tokens}
 use Rattle.polarised_formulas.specs.WrittenOf.{bound_text, written_term, written_args, written_of, IsNamed, AreNamed, HasNames}
 use Rattle.polarised_formulas.specs.Size.{depth_of}
-use Rattle.polarised_formulas.specs.Spoken.{Says}
-use Rattle.polarised_formulas.proofs.Pieces.{Scans, stops, scans-name, scans-variable, scans-blank, scans-end, scans-open, scans-close, scans-comma, scans-dot, scans-tilde, scans-plus, scans-minus, scans-colon, scans-all, scans-some, scans-true_plus, scans-true_minus, scans-false_plus, scans-false_minus, scans-false, scans-and_plus, scans-and_minus, scans-bar_plus, scans-bar_minus, scans-bar, scans-arrow}
+use Rattle.polarised_formulas.proofs.Pieces.{Scans, stops, scans-name, scans-variable, scans-open, scans-close, scans-comma, scans-tilde, scans-plus, scans-minus, scans-colon, scans-all, scans-some, scans-true_plus, scans-true_minus, scans-false_plus, scans-false_minus, scans-false, scans-and_plus, scans-and_minus, scans-bar_plus, scans-bar_minus, scans-bar, scans-arrow}
 use Rattle.round_trips.specs.Printable.{Below}
 use Rattle.round_trips.proofs.NumberedTexts.{scans-parameter}
 

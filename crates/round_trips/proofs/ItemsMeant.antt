@@ -1,24 +1,22 @@
 -- What items that were read mean is printable, and printable items are spelled so that they mean the same.
-use Rattle.std.proofs.Common.{◌≡◌, ℕ, ◌^◌, ◌≤◌, List, [], ◌∷◌, ◌++◌, length, refl, ap, sym, subst, ◌∙◌, arith}
+use Rattle.std.proofs.Common.{◌≡◌, ℕ, List, [], ◌∷◌, length, refl, ap, ◌∙◌, arith}
 use Rattle.fpc_base.specs.declared.tokens.TokenKind.TheVariants.{Name}
 use Rattle.fpc_base.specs.Tokens.{HasForm}
-use Rattle.fpc_terms.specs.Term.{Never}
 use Rattle.fpc_terms.specs.Text.{name_in}
 use Rattle.fpc_terms.specs.Name.{Agrees, HasName}
 use Rattle.polarised_formulas.specs.declared.logic.Logic.{Logic}
-use Rattle.polarised_formulas.specs.Formula.{EachInside, Tied}
 use Rattle.polarised_formulas.specs.Written.{WrittenFormula, formula_meant}
 use Rattle.polarised_formulas.specs.WrittenOf.{written_of}
-use Rattle.polarised_formulas.proofs.Small.{written_depth, HasSmall, written_depth-written_of, HasSmall-written_of, depth_of-formula_meant, HasFewArguments-formula_meant}
+use Rattle.polarised_formulas.proofs.Small.{written_depth-written_of, HasSmall-written_of, depth_of-formula_meant, HasFewArguments-formula_meant}
 use Rattle.polarised_formulas.proofs.Meant.{name_in-stands, IsWrittenIn-written_of}
 use Rattle.clause_language.specs.declared.clause.Clause.{Clause}
 use Rattle.clause_language.specs.declared.declaration.DeclaredFormula.{DeclaredFormula}
 use Rattle.clause_language.specs.Written.{WrittenItem, declaration, a_clause, IsItemOf, AreItemsOf}
 use Rattle.clause_language.specs.Meant.{declaration_meant, declared_meant, clauses_meant}
 use Rattle.clause_language.specs.Limits.{declared_names}
-use Rattle.round_trips.specs.Spelled.{parameters_from, spelled_clause, spelled_declaration, spelled_clauses, spelled_declared, spelled_items}
+use Rattle.round_trips.specs.Spelled.{parameters_from, spelled_clause, spelled_declaration, spelled_clauses, spelled_items}
 use Rattle.round_trips.specs.EachName.{EachNameOfItem, EachNameOfItems}
-use Rattle.round_trips.specs.Printable.{Below, IsDeclarationPrintable, AreDeclaredPrintable, IsClausePrintable, AreClausesPrintable, declared_texts}
+use Rattle.round_trips.specs.Printable.{IsDeclarationPrintable, AreDeclaredPrintable, IsClausePrintable, AreClausesPrintable, declared_texts}
 use Rattle.round_trips.proofs.VariableOrder.{length-numbered_texts}
 use Rattle.round_trips.proofs.Parameters.{length-parameters_from, AreDifferent-parameters_from, bound-written_of, in_table-written_of, meant-written_of}
 use Rattle.round_trips.proofs.MeantFacts.{name_in-number, formed-number, scoped-formula_meant, logic-formula_meant, named-formula_meant}

@@ -8,6 +8,7 @@ pub mod DeclarationPassing
 pub mod Stubs
 pub mod LimitedSteps
 pub mod FilePassing
+pub mod ReadItems
 pub mod Parameters
 pub mod MeantFacts
 pub mod ClauseMeant

@@ -1,9 +1,9 @@
 -- Within the limits the machine of files steps as it does without them.
-use Rattle.std.proofs.Common.{◌≡◌, ℕ, Bool, true, false, if◌then◌else◌, nat_eq, List, [], ◌∷◌, ◌++◌, length, refl, ap, sym, subst, ◌∙◌, Option, Some, None, Result, Ok, Err}
+use Rattle.std.proofs.Common.{◌≡◌, ℕ, Bool, true, false, if◌then◌else◌, nat_eq, List, [], ◌++◌, length, refl, ap, ◌∙◌, Option, Some, None, Result, Ok, Err}
 use Rattle.fpc_base.specs.declared.refusal.Code.{Code}
-use Rattle.fpc_base.specs.declared.refusal.Code.TheVariants.{Unexpected, ManyArguments, WrongCalculus}
+use Rattle.fpc_base.specs.declared.refusal.Code.TheVariants.{ManyArguments, WrongCalculus}
 use Rattle.fpc_base.specs.declared.tokens.lexeme.Sign.TheVariants as sign
-use Rattle.fpc_base.specs.Lexeme.{Lexeme, a_name, a_variable, a_sign}
+use Rattle.fpc_base.specs.Lexeme.{Lexeme, a_name, a_sign}
 use Rattle.fpc_base.specs.Tokens.{is_one_of}
 use Rattle.fpc_terms.specs.Machine as term
 use Rattle.fpc_terms.specs.ReadTerm.{any_variable}
@@ -15,7 +15,7 @@ use Rattle.clause_language.specs.Written.{WrittenAtom, WrittenItem}
 use Rattle.clause_language.specs.Limits.{AtomPlace, declared_names}
 use Rattle.clause_language.specs.ClauseMachine as clause
 use Rattle.clause_language.specs.DeclarationMachine as declaring
-use Rattle.clause_language.specs.FileMachine.{FileState, start, at_item, in_declaration, in_clause, in_term, finished, lost, begun_in, begun_within, is_other, declared, declared_within, claused, claused_within, dotted, read_on, read_within, within, step, limited}
+use Rattle.clause_language.specs.FileMachine.{FileState, start, at_item, in_declaration, in_clause, in_term, lost, begun_in, begun_within, is_other, declared, declared_within, claused, claused_within, dotted, read_on, read_within, within, step, limited}
 
 -- terms
 term-step : (full many : Bool) (t u : term.TermState) → term.within full many t ≡ Ok u → t ≡ u

@@ -15,7 +15,7 @@ use Rattle.polarised_formulas.specs.declared.logic.Logic.TheVariants.{Lkf, Ljf}
 use Rattle.polarised_formulas.specs.Written.{WrittenFormula, true_unit, false_unit, literal, pair, bind, formula_tokens, mark_tokens, joiner_sign, logic_word}
 use Rattle.polarised_formulas.specs.EachName.{EachName, EachNameOf, EachNameIn}
 use Rattle.polarised_formulas.specs.Spoken.{Says}
-use Rattle.clause_language.specs.Written.{WrittenAtom, WrittenClause, WrittenItem, declaration, a_clause, more_atom_tokens, body_tokens, clause_tokens, more_parameter_tokens, parameter_tokens, item_tokens, items_tokens}
+use Rattle.clause_language.specs.Written.{WrittenAtom, WrittenItem, declaration, a_clause, more_atom_tokens, body_tokens, more_parameter_tokens, parameter_tokens, item_tokens, items_tokens}
 use Rattle.round_trips.specs.EachName.{EachNameOfAtoms, EachNameOfItem, EachNameOfItems}
 
 -- each token has its form

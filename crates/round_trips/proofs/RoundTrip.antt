@@ -1,5 +1,5 @@
 -- A definition or a certificate that was read and is printed is read back.
-use Rattle.std.proofs.Common.{◌≡◌, ℕ, ◌<◌, ◌≤◌, ◌^◌, List, [], ◌∷◌, ◌++◌, length, refl, ap, sym, subst, ◌∙◌, arith, append-nil, append_assoc, Option, Some, false}
+use Rattle.std.proofs.Common.{◌≡◌, ℕ, ◌<◌, ◌^◌, List, [], ◌∷◌, ◌++◌, length, refl, ap, sym, subst, ◌∙◌, arith, append-nil, append_assoc, Option, false}
 use Rattle.fpc_base.specs.declared.refusal.Code.{Code}
 use Rattle.fpc_base.specs.declared.tokens.TokenKind.TheVariants.{Name}
 use Rattle.fpc_base.specs.declared.tokens.lexeme.Sign.TheVariants as sign
@@ -13,16 +13,13 @@ use Rattle.fpc_terms.specs.ReadTerm.{numbered}
 use Rattle.fpc_terms.specs.Written.{WrittenTerm, term_tokens, term_meant}
 use Rattle.polarised_formulas.specs.declared.logic.Logic.{Logic}
 use Rattle.polarised_formulas.specs.Written.{logic_word}
-use Rattle.polarised_formulas.specs.WrittenOf.{IsNamed}
 use Rattle.polarised_formulas.specs.Spoken.{Says}
 use Rattle.polarised_formulas.specs.EachName.{EachName}
-use Rattle.polarised_formulas.specs.Size.{HasFew}
 use Rattle.polarised_formulas.proofs.Small.{IsSmall}
 use Rattle.clause_language.specs.declared.clause.Clause.{Clause}
 use Rattle.clause_language.specs.declared.declaration.DeclaredFormula.{DeclaredFormula}
 use Rattle.clause_language.specs.declared.definition.Definition.{Definition}
 use Rattle.clause_language.specs.declared.certificate.Certificate.{Certificate}
-use Rattle.clause_language.specs.declared.file.FileKind.{FileKind}
 use Rattle.clause_language.specs.declared.file.FileKind.TheVariants as kind
 use Rattle.clause_language.specs.Written.{WrittenItem, WrittenDefinition, WrittenCertificate, items_tokens, AreItemsOf, IsDefinition, IsCertificate}
 use Rattle.clause_language.specs.Meant.{term_variables, declared_meant, clauses_meant, definition_meant, certificate_meant}
@@ -33,11 +30,12 @@ use Rattle.round_trips.specs.Spelled.{spelled_term, spelled_items, spelled_defin
 use Rattle.round_trips.specs.Order.{variables_to, IsOrdered}
 use Rattle.round_trips.specs.EachName.{EachNameOfItems}
 use Rattle.round_trips.specs.Printable.{Below, AreNew, declared_texts, AreItemsPrintable, IsDefinitionPrintable, IsCertificatePrintable}
-use Rattle.round_trips.specs.RoundTrip.{ReadsDefinitionAs, ReadsCertificateAs, DefinitionTextIsRead, ReadDefinitionIsPrintable, DefinitionIsReadBack, CertificateTextIsRead, ReadCertificateIsPrintable, CertificateIsReadBack}
+use Rattle.round_trips.specs.RoundTrip.{DefinitionTextIsRead, ReadDefinitionIsPrintable, DefinitionIsReadBack, CertificateTextIsRead, ReadCertificateIsPrintable, CertificateIsReadBack}
 use Rattle.round_trips.proofs.VariableOrder.{texts_to, variables_in-term, ordered-whole_term, numbered_texts, length-numbered_texts, below-term, texts_to-spelled, term_meant-spelled}
 use Rattle.round_trips.proofs.Sizes.{AreItemsSmall}
 use Rattle.round_trips.proofs.ClausePassing.{Passes}
-use Rattle.round_trips.proofs.FilePassing.{pass-items, passed-items, pass-word, passed-word, pass-certificate_term, passed-certificate_term, read-passes, passes-read}
+use Rattle.round_trips.proofs.FilePassing.{pass-items, passed-items, pass-word, passed-word, pass-certificate_term, passed-certificate_term}
+use Rattle.round_trips.proofs.ReadItems.{read-passes, passes-read}
 use Rattle.round_trips.proofs.MeantFacts.{named-term_meant, few-term_meant}
 use Rattle.round_trips.proofs.ClauseMeant.{small-spelled_term, in_table-spelled_term}
 use Rattle.round_trips.proofs.ItemsMeant.{printable-declared, printable-clauses, texts-declared, of_logic-spelled, small-spelled, known-spelled, names-spelled, declared_meant-spelled, clauses_meant-spelled}

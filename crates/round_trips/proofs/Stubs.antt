@@ -1,7 +1,6 @@
 -- What is taken from the laws of the machine of files, which are proved elsewhere.
 use Rattle.std.proofs.Common.{◌≡◌, ℕ, List, [], ◌∷◌, Option, Some, Result, Ok, Err}
 use Rattle.fpc_base.specs.declared.refusal.Code.{Code}
-use Rattle.fpc_base.specs.declared.refusal.Code.TheVariants.{Unexpected}
 use Rattle.fpc_base.specs.Lexeme.{Item, says, fault}
 use Rattle.fpc_base.specs.Reading.{ReadsAll}
 use Rattle.polarised_formulas.specs.declared.logic.Logic.{Logic}

@@ -1,7 +1,6 @@
 -- The limits let a machine that embeds the machine of terms pass the tokens of a term exactly where each name has at most 255 arguments
 -- and there are no more different variables than may be.
-use Rattle.std.proofs.Common.{◌≡◌, ℕ, suc, ◌+◌, ◌<◌, ◌≤◌, Bool, true, false, not, ◌&&◌, if◌then◌else◌, nat_eq, nat_le, List, [], ◌∷◌, ◌++◌, length, refl, ap, sym, subst, ◌∙◌, arith, Option, Some, None, length-append}
-use Rattle.std.proofs.lemmas.Bool.{cases_Bool}
+use Rattle.std.proofs.Common.{◌≡◌, ℕ, suc, ◌+◌, ◌<◌, ◌≤◌, Bool, true, false, not, ◌&&◌, if◌then◌else◌, nat_eq, nat_le, List, [], ◌∷◌, ◌++◌, length, refl, arith, Option, Some, None, length-append}
 use Rattle.std.proofs.lemmas.Bool.Decides.{nat_tests}
 use Rattle.fpc_base.specs.declared.tokens.lexeme.Sign.{Sign}
 use Rattle.fpc_base.specs.declared.tokens.lexeme.Sign.TheVariants as sign
@@ -11,7 +10,7 @@ use Rattle.fpc_terms.specs.Name.{with_text}
 use Rattle.fpc_terms.specs.Written.{WrittenTerm, WrittenArgs, variable_word, application, no_words, words, term_tokens, args_tokens, more_tokens, variables_in}
 use Rattle.fpc_terms.specs.Spot.{Spot, in_term}
 use Rattle.fpc_terms.specs.ReadTerm.{any_variable}
-use Rattle.fpc_terms.specs.Machine.{TermState, wants, named, has, stuck, step, args_with, is_full, is_too_many, IsLive}
+use Rattle.fpc_terms.specs.Machine.{TermState, wants, named, has, step, args_with, is_full, is_too_many, IsLive}
 use Rattle.fpc_terms.proofs.TermLaws.{IsBehind, more-behind}
 use Rattle.polarised_formulas.proofs.Small.{words_count, IsSmall, AreSmall}
 use Rattle.polarised_formulas.proofs.Fits.{less-than}
