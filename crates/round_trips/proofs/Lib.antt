@@ -15,6 +15,7 @@ pub mod ClauseMeant
 pub mod NumberedTexts
 pub mod FormulaScan
 pub mod FileScan
+pub mod CopiedNamed
 pub mod NamesSaid
 pub mod ItemsMeant
 pub mod RoundTrip
