@@ -1,1 +1,16 @@
 pub mod PrintFacts
+pub mod ClauseComplete
+pub mod ClauseLaws
+pub mod ClauseSound
+pub mod ClauseStates
+pub mod ClauseViable
+pub mod DeclarationLaws
+pub mod Parameters
+pub mod ClauseReading
+pub mod FileLaws
+pub mod FileLimits
+pub mod FileReading
+pub mod DeclarationReading
+pub mod FileHolding
+pub mod FileTaking
+pub mod FileTokens

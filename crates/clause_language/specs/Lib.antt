@@ -6,3 +6,7 @@ pub mod Naming
 pub mod ClauseMachine
 pub mod DeclarationMachine
 pub mod FileMachine
+pub mod HoldingClause
+pub mod HoldingDeclaration
+pub mod HoldingFile
+pub mod ReadFile

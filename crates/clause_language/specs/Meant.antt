@@ -1,7 +1,7 @@
 -- What written definitions and certificates stand for, by a numbering of names.
 use Rattle.std.specs.Prelude.{ℕ, List, [], ◌∷◌, length, map}
 use Rattle.fpc_terms.specs.Name.{index_in}
-use Rattle.fpc_terms.specs.Term.{Term, Args, no_args, arg}
+use Rattle.fpc_terms.specs.Term.{terms_in}
 use Rattle.fpc_terms.specs.Written.{WrittenTerm, term_tokens, term_meant, args_meant, variables_in}
 use Rattle.fpc_terms.specs.ReadTerm.{numbered}
 use Rattle.polarised_formulas.specs.Written.{WrittenFormula, formula_meant}
@@ -12,11 +12,6 @@ use Rattle.clause_language.specs.declared.definition.Definition.{Definition}
 use Rattle.clause_language.specs.declared.certificate.Certificate.{Certificate}
 use Rattle.clause_language.specs.Written.{WrittenAtom, WrittenClause, WrittenItem, declaration, a_clause, WrittenDefinition, WrittenCertificate, clause_tokens}
 
--- arguments as a list of terms
-abbrev pub terms_in : Args → List Term
-terms_in no_args = []
-terms_in (arg t ts) = t ∷ terms_in ts
-
 -- the different variables of a clause, by their first occurrence in its head and body
 abbrev pub clause_variables : WrittenClause → List (List ℕ)
 clause_variables c = variables_in (clause_tokens c []) []
@@ -25,15 +20,15 @@ clause_variables c = variables_in (clause_tokens c []) []
 abbrev pub term_variables : WrittenTerm → List (List ℕ)
 term_variables t = variables_in (term_tokens t []) []
 
--- an atom, its variables by their places among these
-abbrev pub atom_meant : (List ℕ → ℕ) → List (List ℕ) → WrittenAtom → Atom
-atom_meant number variables a = record { name = number a.text; arguments = terms_in (args_meant number (numbered (index_in variables)) a.args) }
+-- an atom, its names and variables by their numbers
+abbrev pub atom_meant : (number numbers : List ℕ → ℕ) → WrittenAtom → Atom
+atom_meant number numbers a = record { name = number a.text; arguments = terms_in (args_meant number (numbered numbers) a.args) }
 
 -- a clause, its variables by their places among its own
 abbrev pub clause_meant : (List ℕ → ℕ) → WrittenClause → Clause
 clause_meant number c = record {
-  head = atom_meant number (clause_variables c) c.head;
-  body = map (atom_meant number (clause_variables c)) c.body;
+  head = atom_meant number (index_in (clause_variables c)) c.head;
+  body = map (atom_meant number (index_in (clause_variables c))) c.body;
   variables = length (clause_variables c);
 }
 

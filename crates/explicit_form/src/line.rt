@@ -9,13 +9,14 @@ ghost use Rattle.explicit_form.specs.StepReading.{Line, in_word, at_place, in_pl
 ghost use Rattle.explicit_form.specs.LineStanding.{Stands, IsNext, IsPlainWord, next_unnamed, plain_start, stepped};
 
 use crate::word::{Placed, Word, Written, bare_step, placed_step};
-use crate::words::{begins_word, is_digit, with_digit, word_with};
+use crate::words::{begins_word, word_with};
 use fpc_base::outside::OutOfMemory;
 use fpc_base::refusal::{Code, TokenRefusal};
 use fpc_terms::names::Names;
 use fpc_terms::term::TermBuf;
 use polarised_formulas::formula::Formula;
 use polarised_formulas::logic::Logic;
+use polarised_formulas::plain::digits::{is_digit, with_digit};
 use polarised_formulas::step::Step;
 use polarised_formulas::{PlainReader, Progress};
 use std::alloc::Global;

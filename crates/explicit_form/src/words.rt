@@ -1,8 +1,7 @@
-//! Which word some bytes are, the first lines, and the digits of places.
-ghost use Rattle.std.specs.Prelude.{◌≡◌, ◌&&◌, ◌-◌, if◌then◌else◌, Some, None};
-ghost use Rattle.fpc_base.specs.Tokens.{is_digit};
+//! Which word some bytes are, and the first lines.
+ghost use Rattle.std.specs.Prelude.{◌≡◌};
 ghost use Rattle.polarised_formulas.specs.declared.logic.Logic.TheVariants.{Lkf, Ljf};
-ghost use Rattle.polarised_formulas.specs.PlainReading.{first_with, begins_some, can_grow, grown};
+ghost use Rattle.polarised_formulas.specs.PlainReading.{first_with, begins_some};
 ghost use Rattle.explicit_form.specs.StepText.{word_text, words, header_word, header_text};
 ghost use Rattle.explicit_form.specs.StepReading.{other};
 
@@ -54,23 +53,5 @@ pub(crate) fn other_header(logic: Logic) -> &'static [u8]
     match logic {
         Logic::Lkf => b"fpc 1 ljf",
         Logic::Ljf => b"fpc 1 lkf",
-    }
-}
-
-pub(crate) fn is_digit(b: u8) -> bool
-    ensures { result ≡ is_digit b }
-{
-    b >= b'0' && b <= b'9'
-}
-
-/// The place with one more digit, where the byte is one that may stand there: a place has at most nine digits, and none
-/// behind a 0.
-pub(crate) fn with_digit(place: u32, b: u8) -> Option<u32>
-    ensures { result ≡ (if can_grow place b then Some (grown place b) else None) }
-{
-    if is_digit(b) && (0 < place && place < 100_000_000) {
-        Some(10 * place + u32::from(b - b'0'))
-    } else {
-        None
     }
 }

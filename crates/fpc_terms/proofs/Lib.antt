@@ -1,10 +1,12 @@
 pub mod Places
 pub mod Interning
 pub mod TermFacts
+pub mod ArgumentFacts
 pub mod ScopeFacts
 pub mod States
 pub mod TermLaws
 pub mod TermReading
+pub mod AnyTerm
 pub mod BuilderFacts
 pub mod HoldingFacts
 pub mod PrintFacts

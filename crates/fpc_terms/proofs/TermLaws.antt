@@ -108,12 +108,13 @@ pub run-arguments : (known : List ℕ → Bool) (t : WrittenTerm) (ts : WrittenA
     → run known (wants (in_arguments [])) (term_tokens t (more_tokens ts [])) ≡ ended (words t ts)
 run-arguments known t ts h hs = run-term known t (in_arguments []) (more_tokens ts []) h (more-behind ts []) ∙ run-more_arguments known [] t ts hs
 
+-- the tokens of a term before others are these tokens and the others behind them
 mutual
-  term_tokens-append : (t : WrittenTerm) (xs rest : List Lexeme) → term_tokens t (xs ++ rest) ≡ term_tokens t xs ++ rest
+  pub term_tokens-append : (t : WrittenTerm) (xs rest : List Lexeme) → term_tokens t (xs ++ rest) ≡ term_tokens t xs ++ rest
   term_tokens-append (variable_word x) xs rest = refl
   term_tokens-append (application x args) xs rest = ap (λ (ts : List Lexeme). a_name x ∷ ts) (args_tokens-append args xs rest)
 
-  args_tokens-append : (ts : WrittenArgs) (xs rest : List Lexeme) → args_tokens ts (xs ++ rest) ≡ args_tokens ts xs ++ rest
+  pub args_tokens-append : (ts : WrittenArgs) (xs rest : List Lexeme) → args_tokens ts (xs ++ rest) ≡ args_tokens ts xs ++ rest
   args_tokens-append no_words xs rest = refl
   args_tokens-append (words t ts) xs rest =
       ap (λ (us : List Lexeme). a_sign OpenParenthesis ∷ us) (ap (term_tokens t) (more_tokens-append ts xs rest) ∙ term_tokens-append t (more_tokens ts xs) rest)
@@ -123,7 +124,6 @@ mutual
   more_tokens-append (words t ts) xs rest =
       ap (λ (us : List Lexeme). a_sign Comma ∷ us) (ap (term_tokens t) (more_tokens-append ts xs rest) ∙ term_tokens-append t (more_tokens ts xs) rest)
 
--- the tokens of arguments before others are these tokens and the others behind them
 pub arguments-append : (t : WrittenTerm) (ts : WrittenArgs) (rest : List Lexeme) → term_tokens t (more_tokens ts rest) ≡ term_tokens t (more_tokens ts []) ++ rest
 arguments-append t ts rest = ap (term_tokens t) (more_tokens-append ts [] rest) ∙ term_tokens-append t (more_tokens ts []) rest
 

@@ -41,7 +41,7 @@ run-whole known (application x no_words) h = refl
 run-whole known (application x (words t ts)) h =
     ap whole_of (run-term known t (in_term x [] alone) (more_tokens ts []) h.0 (more-behind ts []) ∙ run-more known x [] t ts alone [] h.1)
 
-whole-live : (s : TermState) (w : WrittenTerm) → whole_of s ≡ Some w → IsLive s
+pub whole-live : (s : TermState) (w : WrittenTerm) → whole_of s ≡ Some w → IsLive s
 whole-live stuck w e = let n : ⊥ = cc in absurd n
 whole-live (wants s) w e = tt
 whole-live (named x s) w e = tt
@@ -90,7 +90,7 @@ named-completes known x (in_term y ds s) a =
     let e : Completes known (has (application y (args_with ds (words (application x no_words) no_words))) s) = has-completes known (application y (args_with ds (words (application x no_words) no_words))) s a in
     record { more = a_sign CloseParenthesis ∷ e.more; term = e.term; leads = e.leads }
 
-completes : (known : List ℕ → Bool) (s : TermState) → IsAloneState s → IsLive s → Completes known s
+pub completes : (known : List ℕ → Bool) (s : TermState) → IsAloneState s → IsLive s → Completes known s
 completes known (wants s) a live =
     let e : Completes known (named (codes "a") s) = named-completes known (codes "a") s a in
     record { more = a_name (codes "a") ∷ e.more; term = e.term; leads = e.leads }
@@ -98,6 +98,31 @@ completes known (named x s) a live = named-completes known x s a
 completes known (has u s) a live = has-completes known u s a
 completes known (ended args) a live = absurd a
 completes known stuck a live = absurd live
+
+-- the tokens to a spot of a term by itself lead there
+pub run-tokens_to : (known : List ℕ → Bool) (s : Spot) → IsAlone s → IsSpotKnown known s → (rest : List Lexeme) → run known (wants alone) (tokens_to s rest) ≡ run known (wants s) rest
+run-tokens_to known alone a h rest = refl
+run-tokens_to known (in_arguments ds) a h rest = absurd a
+run-tokens_to known (in_term x ds s) a h rest = run-tokens_to known s a h.1 (a_name x ∷ done_tokens ds rest) ∙ run-done known x ds s rest h.0
+
+pub leads-run : (known : List ℕ → Bool) (n : ℕ) (ts : List Lexeme) → LeadsBehind known n ts → (s : Spot) × ((run known (wants alone) ts ≡ wants s) × (length (done_at s) ≡ n))
+leads-run known n ts l = (l.spot, (ap (run known (wants alone)) l.spelled ∙ run-tokens_to known l.spot l.is_alone l.known_all [], l.behind))
+
+pub full-leads : (known : List ℕ → Bool) (ts : List Lexeme) (s : TermState) → run known (wants alone) ts ≡ s → is_full s ≡ true → LeadsBehind known 255 ts
+full-leads known ts (wants s) e f =
+    let l : Led known ts (wants alone) = run-led known ts (wants alone) tt (rw e tt) in
+    record { spot = s; is_alone = rw e at l.is_alone tt; known_all = rw e at l.known_all; spelled = sym (append-zero ts) ∙ sym (l.tokens []) ∙ ap (λ (t : TermState). tokens_before t []) e; behind = grind (arith, nat_tests) }
+full-leads known ts _ e f = let n : ⊥ = cc in absurd n
+
+-- one token behind others
+pub run-one : (known : List ℕ → Bool) (ts : List Lexeme) (c : Lexeme) (s : TermState) → run known (wants alone) ts ≡ s → run known (wants alone) (ts ++ c ∷ []) ≡ step known s c
+run-one known ts c s e = run-append known ts (c ∷ []) (wants alone) ∙ ap (λ (t : TermState). step known t c) e
+
+-- the variables of tokens in two parts
+pub variables_in-append : (cs ds : List Lexeme) (earlier : List (List ℕ)) → variables_in (cs ++ ds) earlier ≡ variables_in ds (variables_in cs earlier)
+variables_in-append [] ds earlier = refl
+variables_in-append (a_variable x ∷ cs) ds earlier = variables_in-append cs ds (if is_one_of earlier x then earlier else earlier ++ x ∷ [])
+variables_in-append (_ ∷ cs) ds earlier = variables_in-append cs ds earlier
 
 -- a new variable where there are as many as may be
 record TooMany (most : Option ℕ) (vars : List (List ℕ)) (c : Lexeme) : Type 0 where
@@ -133,28 +158,6 @@ module _ (known : List ℕ → Bool) (most : Option ℕ) (earlier : List (List �
   begins-live ts b =
       let e : whole_of (run known (run known (wants alone) ts) b.0) ≡ Some b.1.0 = ap whole_of (sym (run-append known ts b.0 (wants alone))) ∙ is-whole known (ts ++ b.0) b.1.0 b.1.1 in
       live-run known b.0 (run known (wants alone) ts) (whole-live (run known (run known (wants alone) ts) b.0) b.1.0 e)
-
-  run-tokens_to : (s : Spot) → IsAlone s → IsSpotKnown known s → (rest : List Lexeme) → run known (wants alone) (tokens_to s rest) ≡ run known (wants s) rest
-  run-tokens_to alone a h rest = refl
-  run-tokens_to (in_arguments ds) a h rest = absurd a
-  run-tokens_to (in_term x ds s) a h rest = run-tokens_to s a h.1 (a_name x ∷ done_tokens ds rest) ∙ run-done known x ds s rest h.0
-
-  leads-run : (n : ℕ) (ts : List Lexeme) → LeadsBehind known n ts → (s : Spot) × ((run known (wants alone) ts ≡ wants s) × (length (done_at s) ≡ n))
-  leads-run n ts l = (l.spot, (ap (run known (wants alone)) l.spelled ∙ run-tokens_to l.spot l.is_alone l.known_all [], l.behind))
-
-  full-leads : (ts : List Lexeme) (s : TermState) → run known (wants alone) ts ≡ s → is_full s ≡ true → LeadsBehind known 255 ts
-  full-leads ts (wants s) e f =
-      let l : Led known ts (wants alone) = run-led known ts (wants alone) tt (rw e tt) in
-      record { spot = s; is_alone = rw e at l.is_alone tt; known_all = rw e at l.known_all; spelled = sym (append-zero ts) ∙ sym (l.tokens []) ∙ ap (λ (t : TermState). tokens_before t []) e; behind = grind (arith, nat_tests) }
-  full-leads ts _ e f = let n : ⊥ = cc in absurd n
-
-  run-one : (ts : List Lexeme) (c : Lexeme) (s : TermState) → run known (wants alone) ts ≡ s → run known (wants alone) (ts ++ c ∷ []) ≡ step known s c
-  run-one ts c s e = run-append known ts (c ∷ []) (wants alone) ∙ ap (λ (t : TermState). step known t c) e
-
-  variables_in-one : (ts : List Lexeme) (c : Lexeme) (vars : List (List ℕ)) → variables_in (ts ++ c ∷ []) vars ≡ variables_in (c ∷ []) (variables_in ts vars)
-  variables_in-one [] c vars = refl
-  variables_in-one (a_variable x ∷ ts) c vars = variables_in-one ts c (if is_one_of vars x then vars else vars ++ x ∷ [])
-  variables_in-one (_ ∷ ts) c vars = variables_in-one ts c vars
 
   -- what `within` answers
   within-ok : (f m : Bool) (x t : TermState) → within f m x ≡ Ok t → (x ≡ t) × (IsLive x × ((f ≡ false) × (m ≡ false)))
@@ -198,8 +201,8 @@ module _ (known : List ℕ → Bool) (most : Option ℕ) (earlier : List (List �
   no-limit : (before : List Lexeme) (c : Lexeme) (s : TermState) → run known (wants alone) before ≡ s → is_full (step known s c) ≡ false
       → is_too_many most (variables_in before earlier) c ≡ false → (code : Code) → TermLimits known most earlier before c code → ⊥
   no-limit before c s e f m _ (many_arguments l) =
-      let r : (s : Spot) × ((run known (wants alone) (before ++ c ∷ []) ≡ wants s) × (length (done_at s) ≡ 255)) = leads-run 255 (before ++ c ∷ []) l in
-      let d : step known s c ≡ wants r.0 = sym (run-one before c s e) ∙ r.1.0 in
+      let r : (s : Spot) × ((run known (wants alone) (before ++ c ∷ []) ≡ wants s) × (length (done_at s) ≡ 255)) = leads-run known 255 (before ++ c ∷ []) l in
+      let d : step known s c ≡ wants r.0 = sym (run-one known before c s e) ∙ r.1.0 in
       let g : nat_eq (length (done_at r.0)) 255 ≡ false = sym (ap is_full d) ∙ f in
       let h : nat_eq 255 255 ≡ false = sym (ap (λ (k : ℕ). nat_eq k 255) r.1.1) ∙ g in cc
   no-limit before (a_variable x) s e f m _ (many_variables old at_most reached) =
@@ -226,7 +229,7 @@ module _ (known : List ℕ → Bool) (most : Option ℕ) (earlier : List (List �
   taken before c s t e l =
       let w : (step known s c ≡ t) × (IsLive (step known s c) × ((is_full (step known s c) ≡ false) × (is_too_many most (variables_in before earlier) c ≡ false))) =
       within-ok (is_full (step known s c)) (is_too_many most (variables_in before earlier) c) (step known s c) t l in
-      record { begins = live-begins (before ++ c ∷ []) (rw (run-one before c s e) w.1.0); free = no-limit before c s e w.1.1.0 w.1.1.1 }
+      record { begins = live-begins (before ++ c ∷ []) (rw (run-one known before c s e) w.1.0); free = no-limit before c s e w.1.1.0 w.1.1.1 }
 
   pub IsAt-taken : (n : ℕ) (items rest : List Item) (s t : TermState) (vars : List (List ℕ)) (c : Lexeme) (at : ℕ) → IsAt n items (says c at ∷ rest) s vars
       → limited known most vars s c ≡ Ok t → IsAt n items rest t (variables_in (c ∷ []) vars)
@@ -237,8 +240,8 @@ module _ (known : List ℕ → Bool) (most : Option ℕ) (earlier : List (List �
       within-ok (is_full (step known s c)) (is_too_many most vars c) (step known s c) t l in
       record {
         before = i.before ++ c ∷ [];
-        ran = run-one i.before c s i.ran ∙ w.0;
-        variables = variables_in-one i.before c earlier ∙ ap (variables_in (c ∷ [])) i.variables;
+        ran = run-one known i.before c s i.ran ∙ w.0;
+        variables = variables_in-append i.before (c ∷ []) earlier ∙ ap (variables_in (c ∷ [])) i.variables;
         refused = λ r h. i.refused r (reading.RefusesFront.later k h);
         read = λ v left h. i.read v left (reading.ReadsFront.later k h);
       }
@@ -247,12 +250,12 @@ module _ (known : List ℕ → Bool) (most : Option ℕ) (earlier : List (List �
   refused-here : (n : ℕ) (before : List Lexeme) (rest : List Item) (c : Lexeme) (at : ℕ) (code : Code) (s : TermState) → run known (wants alone) before ≡ s → (whole_of s ≡ None) ⊎ (IsLive (step known s c))
       → Refused s (variables_in before earlier) c code → RefusesFront (IsTerm known) (TermLimits known most earlier) n before (says c at ∷ rest) (record { code = code; at = at })
   refused-here n before rest c at _ s e (inl h) (unfit u) =
-      reading.RefusesFront.unexpected (not-whole known before (ap whole_of e ∙ h)) (λ b. rw (run-one before c s e ∙ u) at (begins-live (before ++ c ∷ []) b))
+      reading.RefusesFront.unexpected (not-whole known before (ap whole_of e ∙ h)) (λ b. rw (run-one known before c s e ∙ u) at (begins-live (before ++ c ∷ []) b))
   refused-here n before rest c at _ s e (inr h) (unfit u) = absurd (rw u at h)
   refused-here n before rest c at _ s e o (full v f) =
-      reading.RefusesFront.limited (live-begins (before ++ c ∷ []) (rw (run-one before c s e) v)) (many_arguments (full-leads (before ++ c ∷ []) (step known s c) (run-one before c s e) f))
+      reading.RefusesFront.limited (live-begins (before ++ c ∷ []) (rw (run-one known before c s e) v)) (many_arguments (full-leads known (before ++ c ∷ []) (step known s c) (run-one known before c s e) f))
   refused-here n before rest c at _ s e o (many v f) =
-      reading.RefusesFront.limited (live-begins (before ++ c ∷ []) (rw (run-one before c s e) v)) (limit before c f)
+      reading.RefusesFront.limited (live-begins (before ++ c ∷ []) (rw (run-one known before c s e) v)) (limit before c f)
 
   pub IsAt-refused : (n : ℕ) (items rest : List Item) (s : TermState) (vars : List (List ℕ)) (c : Lexeme) (at : ℕ) (code : Code) → IsAt n items (says c at ∷ rest) s vars
       → (whole_of s ≡ None) ⊎ (IsLive (step known s c)) → limited known most vars s c ≡ Err code
@@ -263,12 +266,12 @@ module _ (known : List ℕ → Bool) (most : Option ℕ) (earlier : List (List �
       (ap (λ (v : List (List ℕ)). limited known most v s c) i.variables ∙ l)))
 
   final-is : (ts : List Lexeme) (s : TermState) → run known (wants alone) ts ≡ s → is_final s ≡ true → IsFinal (IsTerm known) (TermLimits known most earlier) ts
-  final-is ts (has u alone) e f c b = rw (run-one ts c (has u alone) e) at (begins-live (ts ++ c ∷ []) b)
+  final-is ts (has u alone) e f c b = rw (run-one known ts c (has u alone) e) at (begins-live (ts ++ c ∷ []) b)
   final-is ts _ e f c b = let n : ⊥ = cc in absurd n
 
   -- a whole term that isn't final goes on with an open parenthesis
   not-final : (ts : List Lexeme) (s : TermState) → run known (wants alone) ts ≡ s → is_final s ≡ false → (w : WrittenTerm) → IsTerm known ts w → IsFinal (IsTerm known) (TermLimits known most earlier) ts → ⊥
-  not-final ts (named x alone) e f w i final = final (a_sign OpenParenthesis) (live-begins (ts ++ a_sign OpenParenthesis ∷ []) (rw (run-one ts (a_sign OpenParenthesis) (named x alone) e) tt))
+  not-final ts (named x alone) e f w i final = final (a_sign OpenParenthesis) (live-begins (ts ++ a_sign OpenParenthesis ∷ []) (rw (run-one known ts (a_sign OpenParenthesis) (named x alone) e) tt))
   not-final ts (has u alone) e f w i final = cc
   not-final ts s e f w i final =
       let d : whole_of s ≡ Some w = ap whole_of (sym e) ∙ is-whole known ts w i in cc
@@ -302,7 +305,7 @@ module _ (known : List ℕ → Bool) (most : Option ℕ) (earlier : List (List �
       → is_open c ≡ false → ReadsFront (IsTerm known) (TermLimits known most earlier) [] items w (says c at ∷ rest)
   IsAt-ends n items rest s vars w c at i h o =
       i.read w (says c at ∷ rest) (reading.ReadsFront.ends (whole-before i.before s w i.ran h)
-      (λ b. rw (run-one i.before c s i.ran ∙ closed-behind s w c h o) at (begins-live (i.before ++ c ∷ []) b)))
+      (λ b. rw (run-one known i.before c s i.ran ∙ closed-behind s w c h o) at (begins-live (i.before ++ c ∷ []) b)))
 
   -- the variables so far are those of the term
   pub IsAt-variables : (n : ℕ) (items rest : List Item) (s : TermState) (vars : List (List ℕ)) (w : WrittenTerm) → IsAt n items rest s vars → whole_of s ≡ Some w

@@ -1,6 +1,7 @@
 pub mod Name
 pub mod Term
 pub mod Scope
+pub mod Cells
 pub mod Text
 pub mod Written
 pub mod Spot

@@ -1,5 +1,5 @@
 -- Terms as trees, their cells in prefix order, and what holds of their leaves.
-use Rattle.std.specs.Prelude.{◌≡◌, ℕ, zero, suc, ◌<◌, Bool, true, false, ◌||◌, ◌&&◌, nat_eq, nat_le, if◌then◌else◌, List, [], ◌∷◌, refl}
+use Rattle.std.specs.Prelude.{◌≡◌, ℕ, zero, suc, ◌<◌, Bool, true, false, ◌||◌, ◌&&◌, nat_eq, nat_le, if◌then◌else◌, List, [], ◌∷◌, Option, Some, None, refl}
 use Rattle.std.specs.Coded.{Coded, code_by, coded_list}
 use Rattle.std.proofs.Common.{ap, sym, ◌∙◌}
 use Rattle.fpc_terms.specs.declared.cell.Cell.{Cell}
@@ -39,6 +39,21 @@ abbrev mutual
 -- the cells of a term
 abbrev pub cells_of : Term → List Cell
 cells_of t = cells_before t []
+
+-- arguments as a list of terms
+abbrev pub terms_in : Args → List Term
+terms_in no_args = []
+terms_in (arg t ts) = t ∷ terms_in ts
+
+-- the arguments of an application, in order; none of another term
+abbrev pub arguments_in : Term → List Term
+arguments_in (app f ts) = terms_in ts
+arguments_in _ = []
+
+-- the name of an application
+abbrev pub head_of : Term → Option ℕ
+head_of (app f ts) = Some f
+head_of _ = None
 
 -- the first n of the arguments
 abbrev pub first_args : ℕ → Args → Args

@@ -1,6 +1,7 @@
 //! Names and terms. A term is a flat list of cells in prefix order, which contracts see as a tree.
 #![tactic(auto)]
 
+pub mod arguments;
 pub mod builder;
 pub mod cell;
 pub mod list;

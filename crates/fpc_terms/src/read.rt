@@ -119,8 +119,10 @@ fn is_open(lexeme: Lexeme<'_>) -> bool
     }
 }
 
-/// Takes one token of a term.
-fn take_token(
+/// Takes one token of a term whose variables get numbers in the table, where the table may hold at most `most` variables: with that many in it, a variable
+/// that it doesn't have is refused as ManyVariables. On a refusal the tables may have grown, and the reader means nothing until it begins anew. Time is constant,
+/// but for the look-ups.
+pub fn take_token(
     reader: &mut TermReader,
     names: &mut Names,
     vars: &mut VarTable,

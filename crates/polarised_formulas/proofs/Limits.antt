@@ -13,6 +13,7 @@ use Rattle.polarised_formulas.specs.Written.{IsFormula}
 use Rattle.polarised_formulas.specs.Place.{Place, nesting, FormulaLimits, too_deep, many_arguments, LeadsTo, LeadsInto}
 use Rattle.polarised_formulas.specs.Machine.{FormulaState, wants, in_atom, stuck, step, is_deep, is_full, within, limited}
 use Rattle.polarised_formulas.proofs.States.{IsLive}
+use Rattle.polarised_formulas.proofs.Sound.{live-run}
 use Rattle.polarised_formulas.proofs.ReadingLaws.{taken-refused, refused-once}
 use Rattle.polarised_formulas.proofs.FormulaLaws.{formula-once, state_behind, BeginsFormula, state_behind-step, step-begins, begins-step, state-leads_to, leads_to-state, state-leads_into, leads_into-state}
 
@@ -111,9 +112,17 @@ module _ (logic : Logic) (parameters : List (List ℕ)) where
     λ h. answer-taken before c (step logic parameters (state_behind logic parameters before) c) (answer before c) (limited-judged logic parameters before c) h.0 ∙ ap Ok h.1,
   )
 
-  limits-expected : (before : List Lexeme) (c : Lexeme) (code : Code) → FormulaLimits logic parameters before c code → code ≡ Unexpected → ⊥
+  -- no limit forbids a token with `Unexpected`
+  pub limits-expected : (before : List Lexeme) (c : Lexeme) (code : Code) → FormulaLimits logic parameters before c code → code ≡ Unexpected → ⊥
   limits-expected before c _ (too_deep l) e = cc
   limits-expected before c _ (many_arguments n l) e = cc
+
+  -- where a limit forbids a token, a formula begins with the tokens before it
+  pub limits-live : (cs : List Lexeme) (c : Lexeme) (code : Code) → FormulaLimits logic parameters cs c code → IsLive (state_behind logic parameters cs)
+  limits-live cs c _ (too_deep l) = subst IsLive (sym (leads_to-state logic parameters 10001 cs l)) tt
+  limits-live cs c _ (many_arguments n l) =
+      live-run logic parameters (c ∷ []) (state_behind logic parameters cs)
+      (subst IsLive (sym (leads_into-state logic parameters 255 (cs ++ c ∷ []) l) ∙ state_behind-step logic parameters cs c) tt)
 
   refused-parts : (before : List Lexeme) (c : Lexeme) (code : Code) → IsRefused (IsFormula logic parameters) (FormulaLimits logic parameters) before c code
       → ((code ≡ Unexpected) × (BeginsFormula logic parameters (before ++ c ∷ []) → ⊥))

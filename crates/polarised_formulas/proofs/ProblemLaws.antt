@@ -5,10 +5,10 @@ use Rattle.std.proofs.lemmas.Slice.Eq.{bytes_eq-Decides}
 use Rattle.fpc_base.specs.declared.tokens.lexeme.Sign.TheVariants as sign
 use Rattle.fpc_base.specs.Lexeme.{Lexeme, a_name, a_variable, a_sign}
 use Rattle.fpc_base.specs.Reading.{Begins}
-use Rattle.fpc_terms.specs.Written.{WrittenTerm, WrittenArgs, application, no_words, words, term_tokens, args_tokens, more_tokens}
+use Rattle.fpc_terms.specs.Written.{WrittenTerm, application, no_words, args_tokens}
 use Rattle.fpc_terms.specs.Spot.{Spot, alone, in_arguments, in_term}
 use Rattle.fpc_terms.specs.Machine as term
-use Rattle.fpc_terms.proofs.TermLaws as term_laws
+use Rattle.fpc_terms.proofs.TermLaws.{args_tokens-append}
 use Rattle.polarised_formulas.specs.declared.logic.Logic.{Logic}
 use Rattle.polarised_formulas.specs.declared.logic.Logic.TheVariants.{Lkf, Ljf}
 use Rattle.polarised_formulas.specs.Written.{WrittenFormula, true_unit, false_unit, literal, pair, bind, formula_tokens, mark_tokens, joiner_sign, binder_sign, IsFormula, WrittenProblem, IsProblem, logic_word, is_known}
@@ -18,26 +18,18 @@ use Rattle.polarised_formulas.proofs.States.{IsLive}
 use Rattle.polarised_formulas.proofs.Sound.{live-run}
 use Rattle.polarised_formulas.proofs.FormulaLaws.{state_behind, BeginsFormula, whole-live, live-begins, whole-formula, formula-whole}
 
--- the tokens of a formula before others are these tokens and the others behind them
-args-append : (args : WrittenArgs) (xs rest : List Lexeme) → args_tokens args (xs ++ rest) ≡ args_tokens args xs ++ rest
-args-append no_words xs rest = refl
-args-append (words t ts) xs rest =
-    ap (λ l. a_sign sign.OpenParenthesis ∷ l)
-    (term_laws.arguments-append t ts (xs ++ rest)
-    ∙ sym (append_assoc (term_tokens t (more_tokens ts [])) xs rest)
-    ∙ ap (λ l. l ++ rest) (sym (term_laws.arguments-append t ts xs)))
-
 mark-append : (logic : Logic) (positive : Bool) (xs rest : List Lexeme) → mark_tokens logic positive (xs ++ rest) ≡ mark_tokens logic positive xs ++ rest
 mark-append Lkf true xs rest = refl
 mark-append Lkf false xs rest = refl
 mark-append Ljf true xs rest = refl
 mark-append Ljf false xs rest = refl
 
+-- the tokens of a formula before others are these tokens and the others behind them
 pub formula-append : (logic : Logic) (w : WrittenFormula) (xs rest : List Lexeme) → formula_tokens logic w (xs ++ rest) ≡ formula_tokens logic w xs ++ rest
 formula-append logic (true_unit p) xs rest = refl
 formula-append logic (false_unit p) xs rest = refl
 formula-append logic (literal positive x args) xs rest =
-    ap (λ l. mark_tokens logic positive (a_name x ∷ l)) (args-append args xs rest) ∙ mark-append logic positive (a_name x ∷ args_tokens args xs) rest
+    ap (λ l. mark_tokens logic positive (a_name x ∷ l)) (args_tokens-append args xs rest) ∙ mark-append logic positive (a_name x ∷ args_tokens args xs) rest
 formula-append logic (pair j a b) xs rest =
     ap (λ l. a_sign sign.OpenParenthesis ∷ formula_tokens logic a (a_sign (joiner_sign logic j) ∷ l)) (formula-append logic b (a_sign sign.CloseParenthesis ∷ xs) rest)
     ∙ ap (λ l. a_sign sign.OpenParenthesis ∷ l)
@@ -59,7 +51,7 @@ behind-dot u alone = refl
 behind-dot u (in_arguments done) = refl
 behind-dot u (in_term x done s) = refl
 
-term-dot : (known : List ℕ → Bool) (t : term.TermState) → term.step known t (a_sign sign.Dot) ≡ term.stuck
+pub term-dot : (known : List ℕ → Bool) (t : term.TermState) → term.step known t (a_sign sign.Dot) ≡ term.stuck
 term-dot known (term.wants s) = refl
 term-dot known (term.named x s) = behind-dot (application x no_words) s
 term-dot known (term.has u s) = behind-dot u s

@@ -54,15 +54,15 @@ limits-within : (logic : Logic) (cs before : List Lexeme) (c : Lexeme) (code : C
 limits-within logic cs before c code e l = subst (λ b. ProblemLimits b c code) (sym e) (in_formula l)
 
 -- no limit forbids a dot behind a whole formula
-dot-free : (logic : Logic) (cs : List Lexeme) (w : WrittenFormula) (code : Code) → whole_of (state_behind logic [] cs) ≡ Some w
-    → FormulaLimits logic [] cs (a_sign sign.Dot) code → ⊥
-dot-free logic cs w _ e (too_deep l) =
-    let f : whole_of (wants l.place) ≡ Some w = ap whole_of (sym (leads_to-state logic [] 10001 cs l)) ∙ e in cc
-dot-free logic cs w _ e (many_arguments n l) =
+pub dot-free : (logic : Logic) (parameters : List (List ℕ)) (cs : List Lexeme) (w : WrittenFormula) (code : Code) → whole_of (state_behind logic parameters cs) ≡ Some w
+    → FormulaLimits logic parameters cs (a_sign sign.Dot) code → ⊥
+dot-free logic parameters cs w _ e (too_deep l) =
+    let f : whole_of (wants l.place) ≡ Some w = ap whole_of (sym (leads_to-state logic parameters 10001 cs l)) ∙ e in cc
+dot-free logic parameters cs w _ e (many_arguments n l) =
     subst IsLive
-    (sym (leads_into-state logic [] 255 (cs ++ a_sign sign.Dot ∷ []) l)
-    ∙ state_behind-step logic [] cs (a_sign sign.Dot)
-    ∙ step-dot logic [] (state_behind logic [] cs))
+    (sym (leads_into-state logic parameters 255 (cs ++ a_sign sign.Dot ∷ []) l)
+    ∙ state_behind-step logic parameters cs (a_sign sign.Dot)
+    ∙ step-dot logic parameters (state_behind logic parameters cs))
     tt
 
 -- what the answer about a token says, where its step leads to a state
@@ -74,7 +74,7 @@ IsProblemJudged before c t (Err code) = IsRefused IsProblem ProblemLimits before
 no-problem : (before : List Lexeme) (c : Lexeme) → problem_step (problem_behind before) c ≡ lost → IsRefused IsProblem ProblemLimits before c Unexpected
 no-problem before c e = read.IsRefused.unexpected (λ b. subst IsLiveProblem e (begins-step_problem before c b))
 
-stuck-is : (s : FormulaState) → (IsLive s → ⊥) → s ≡ stuck
+pub stuck-is : (s : FormulaState) → (IsLive s → ⊥) → s ≡ stuck
 stuck-is stuck n = refl
 stuck-is _ n = absurd (n tt)
 
@@ -94,7 +94,7 @@ judged-dot : (before : List Lexeme) (logic : Logic) (cs : List Lexeme) (o : Opti
 judged-dot before logic cs (Some w) e o s = (
   record {
     begins = step-begins_problem before (a_sign sign.Dot) (rw s tt);
-    free = λ code l. dot-free logic cs w code o (within-limits logic cs before (a_sign sign.Dot) code e l);
+    free = λ code l. dot-free logic [] cs w code o (within-limits logic cs before (a_sign sign.Dot) code e l);
   },
   refl,
 )

@@ -106,7 +106,8 @@ pub struct ProblemReader<'a> {
     formula: FormulaReader<'a>,
 }
 
-fn logic_of(text: &[u8]) -> Option<Logic>
+/// The logic of a word, `lkf` or `ljf`, that a file begins with.
+pub fn logic_of(text: &[u8]) -> Option<Logic>
     ensures { result ≡ logic_of text.now }
 {
     if text == b"lkf".as_slice() {

@@ -118,8 +118,9 @@ fn is_open(lexeme: Lexeme<'_>) -> bool
     }
 }
 
-/// Takes one token of a formula. Contracts speak of all numberings that agree with the table.
-pub(crate) fn take_token<'a>(
+/// Takes one token of a formula, whose variables are those that a quantifier binds and the parameters. On a refusal the table of names may have grown, and
+/// the reader means nothing until another is made. Time is constant, but for the look-ups. Contracts speak of all numberings that agree with the table.
+pub fn take_token<'a>(
     reader: &mut FormulaReader<'a>,
     names: &mut Names,
     parameters: &VarTable,

@@ -1,18 +1,19 @@
 //! A term or a formula in plain form that is read byte by byte.
-ghost use Rattle.std.specs.Prelude.{◌≡◌, ℕ, suc, ◌∷◌, ◌++◌, [], List, Bool, true, false, Some, None, Ok, Err, OnOk, IsTrue, ◌↔◌, ◌<◌, ◌≤◌, length, nat_eq, nat_lt, if◌then◌else◌};
+ghost use Rattle.std.specs.Prelude.{◌≡◌, ℕ, suc, ◌∷◌, ◌++◌, [], List, Bool, true, Some, Ok, Err, OnOk, ◌≤◌, length, nat_eq, nat_lt, if◌then◌else◌};
 ghost use Rattle.fpc_base.specs.declared.refusal.Code.TheVariants.{LongName};
 ghost use Rattle.fpc_base.specs.declared.refusal.TokenRefusal.TheVariants.{Refused};
-ghost use Rattle.fpc_terms.specs.Name.{Agrees, Grows, IsNameBegun, is_small_letter, is_name_byte};
+ghost use Rattle.fpc_terms.specs.Name.{Agrees, Grows, IsNameBegun, is_name_byte};
 ghost use Rattle.fpc_terms.specs.Adding.{AddsOnly, IsText};
-ghost use Rattle.fpc_terms.specs.Term.{Term, bound, app, no_args};
+ghost use Rattle.fpc_terms.specs.Term.{Term, no_args};
 ghost use Rattle.polarised_formulas.specs.declared.logic.Logic.{Logic};
 ghost use Rattle.polarised_formulas.specs.declared.logic.Logic.TheVariants.{Lkf, Ljf};
 ghost use Rattle.polarised_formulas.specs.Formula.{Formula, atom};
 ghost use Rattle.polarised_formulas.specs.Unfinished.{wants, has};
-ghost use Rattle.polarised_formulas.specs.PlainReading.{Hole, Around, alone, in_term, in_atom, Reading, at_formula, in_word, at_name, in_name, behind_formula, in_operator, at_term, in_function, at_eigen, in_eigen, at_index, in_index, behind_term, on, wrong, first_of, second_of, next, end_formula, end_term, end_name, end_function, after_word, args_onto, depth_around, is_keyword};
+ghost use Rattle.polarised_formulas.specs.PlainReading.{Hole, Around, alone, in_atom, Reading, at_formula, in_word, at_name, in_name, behind_formula, in_operator, at_term, in_function, on, first_of, second_of, next, end_formula, end_name, after_word, args_onto, is_keyword};
 ghost use Rattle.polarised_formulas.specs.PlainLimits.{nesting};
-ghost use Rattle.polarised_formulas.specs.PlainStanding.{Stands, IsOutside, IsLiteral, IsAround, IsBehind, IsNext, IsOn, IsNamed, begun, BeginsWord, word_meant, operator_of, built_holes, formula_around, told_of, next_unnamed};
+ghost use Rattle.polarised_formulas.specs.PlainStanding.{Stands, IsOutside, IsLiteral, IsNext, IsOn, IsNamed, begun, BeginsWord, word_meant, operator_of, built_holes, told_of, next_unnamed};
 
+mod terms;
 #[cfg(test)]
 mod tests;
 mod words;
@@ -22,8 +23,8 @@ use crate::connective::{Binder, Joiner};
 use crate::formula::Formula;
 use crate::logic::Logic;
 use crate::plain::reader::words::{
-    Word, begins_operator, begins_word, is_digit, is_name_byte, is_small_letter, operator_with,
-    with_digit, word_with,
+    Word, begins_operator, begins_with, begins_word, is_name_byte, is_small_letter, operator_with,
+    word_with,
 };
 use fpc_base::outside::OutOfMemory;
 use fpc_base::refusal::{Code, TokenRefusal};
@@ -103,47 +104,6 @@ pub struct PlainReader {
     /// The term by itself, or the arguments of the literal.
     terms: TermBuilder,
     formula: FormulaBuilder,
-}
-
-/// How a formula may begin with this byte.
-fn begins_with(logic: Logic, b: u8) -> Option<Beginning>
-    ensures begun { (hs : List Hole) → next_unnamed logic (at_formula hs) b ≡ begun hs b result }
-    ensures letter { (beginning : Beginning) → result ≡ Some beginning → BeginsWord logic b beginning }
-{
-    if b == b'(' {
-        return Some(Beginning::Pair);
-    }
-    match logic {
-        Logic::Lkf => begins_lkf_with(b),
-        Logic::Ljf => begins_ljf_with(b),
-    }
-}
-
-fn begins_lkf_with(b: u8) -> Option<Beginning>
-    ensures begun { (hs : List Hole) → Rattle.polarised_formulas.specs.PlainReading.first_byte Lkf hs b ≡ begun hs b result }
-    ensures letter { (beginning : Beginning) → result ≡ Some beginning → BeginsWord Lkf b beginning }
-{
-    if b == b'~' {
-        Some(Beginning::Mark(false))
-    } else if is_small_letter(b) {
-        Some(Beginning::Letter)
-    } else {
-        None
-    }
-}
-
-fn begins_ljf_with(b: u8) -> Option<Beginning>
-    ensures { (hs : List Hole) → Rattle.polarised_formulas.specs.PlainReading.first_byte Ljf hs b ≡ begun hs b result }
-{
-    if b == b'+' {
-        Some(Beginning::Mark(true))
-    } else if b == b'-' {
-        Some(Beginning::Mark(false))
-    } else if begins_word(&[b]) {
-        Some(Beginning::Letter)
-    } else {
-        None
-    }
 }
 
 /// The number of a name that was read. Time is logarithmic in the number of names.
@@ -530,259 +490,6 @@ impl PlainReader {
         } else {
             Err(TokenRefusal::Refused(Code::Unexpected))
         }
-    }
-
-    fn at_term(&mut self, b: u8) -> Result<Progress, TokenRefusal>
-        ensures { (logic : Logic) (up : Around) → Stands logic (at_term up) self.old
-            → IsNext logic 0 result self.new (next_unnamed logic (at_term up) b) }
-    {
-        if b == b'$' {
-            self.mode = Mode::AtEigen;
-            Ok(Progress::Going)
-        } else if b == b'#' {
-            self.begin_index()
-        } else {
-            self.begin_function(b)
-        }
-    }
-
-    /// Takes the mark of a bound index, which stands under a quantifier.
-    fn begin_index(&mut self) -> Result<Progress, TokenRefusal>
-        ensures { (logic : Logic) (up : Around) → Stands logic (at_term up) self.old
-            → IsNext logic 0 result self.new (if nat_lt 0 (depth_around up) then on (at_index up) else wrong) }
-    {
-        if self.formula.quantifiers() > 0 {
-            self.mode = Mode::AtIndex;
-            Ok(Progress::Going)
-        } else {
-            Err(TokenRefusal::Refused(Code::Unexpected))
-        }
-    }
-
-    fn begin_function(&mut self, b: u8) -> Result<Progress, TokenRefusal>
-        ensures { (logic : Logic) (up : Around) → Stands logic (at_term up) self.old
-            → IsNext logic 0 result self.new (if is_small_letter b then on (in_function up (b ∷ [])) else wrong) }
-    {
-        if !is_small_letter(b) {
-            return Err(TokenRefusal::Refused(Code::Unexpected));
-        }
-        push(&mut self.word, b)?;
-        self.mode = Mode::InFunction;
-        Ok(Progress::Going)
-    }
-
-    fn in_function(&mut self, names: &mut Names, b: u8) -> Result<Progress, TokenRefusal>
-        ensures grows { Grows names.old names.new }
-        ensures only { AddsOnly (IsText self.old.word.items) names.old names.new }
-        ensures next { (number : List ℕ → ℕ) (logic : Logic) (up : Around) (w : List ℕ) → Agrees number names.new → Stands logic (in_function up w) self.old
-            → IsNext logic 0 result self.new (next number logic (in_function up w) b) }
-    {
-        if is_name_byte(b) {
-            self.lengthen(b)
-        } else {
-            self.end_function(names, b)
-        }
-    }
-
-    /// Takes the byte behind the name of a term.
-    fn end_function(&mut self, names: &mut Names, b: u8) -> Result<Progress, TokenRefusal>
-        ensures grows { Grows names.old names.new }
-        ensures only { AddsOnly (IsText self.old.word.items) names.old names.new }
-        ensures next { (number : List ℕ → ℕ) (logic : Logic) (up : Around) (w : List ℕ) → Agrees number names.new → Stands logic (in_function up w) self.old
-            → IsNext logic 0 result self.new (end_function number up w b) }
-    {
-        match name_of(names, self.word.as_slice()) {
-            Ok(name) => {
-                self.word.clear();
-                self.end_named_term(name, b)
-            }
-            Err(refusal) => Err(refusal),
-        }
-    }
-
-    /// Takes the byte behind a name so far.
-    fn end_named_term(&mut self, name: NameId, b: u8) -> Result<Progress, TokenRefusal>
-        ensures { (logic : Logic) (up : Around) → IsAround logic up self.old
-            → IsNext logic 0 result self.new (if nat_eq b 40 then on (at_term (in_term name [] up)) else end_term up (app name no_args) b) }
-    {
-        if b == b'(' {
-            self.open_application(name)
-        } else {
-            self.end_constant(name, b)
-        }
-    }
-
-    /// Takes the parenthesis behind the name of a term.
-    fn open_application(&mut self, name: NameId) -> Result<Progress, TokenRefusal>
-        ensures { (logic : Logic) (up : Around) → IsAround logic up self.old → IsNext logic 0 result self.new (on (at_term (in_term name [] up))) }
-    {
-        match self.terms.open_application(name) {
-            Ok(true) => {
-                self.mode = Mode::AtTerm;
-                Ok(Progress::Going)
-            }
-            Ok(false) => Err(TokenRefusal::Refused(Code::ManyArguments)),
-            Err(_) => Err(TokenRefusal::OutOfMemory),
-        }
-    }
-
-    /// Takes another byte behind the name of a term.
-    fn end_constant(&mut self, name: NameId, b: u8) -> Result<Progress, TokenRefusal>
-        ensures { (logic : Logic) (up : Around) → IsAround logic up self.old → IsNext logic 0 result self.new (end_term up (app name no_args) b) }
-    {
-        match self.terms.constant(name) {
-            Ok(true) => self.end_leaf(b),
-            Ok(false) => Err(TokenRefusal::Refused(Code::ManyArguments)),
-            Err(_) => Err(TokenRefusal::OutOfMemory),
-        }
-    }
-
-    /// Takes the byte behind a name or number that was added.
-    fn end_leaf(&mut self, b: u8) -> Result<Progress, TokenRefusal>
-        ensures { (logic : Logic) (up : Around) (t : Term) → IsBehind logic up t self.old → IsNext logic 0 result self.new (end_term up t b) }
-    {
-        self.mode = Mode::BehindTerm;
-        self.behind_term(b)
-    }
-
-    fn at_eigen(&mut self, b: u8) -> Result<Progress, TokenRefusal>
-        ensures { (logic : Logic) (up : Around) → Stands logic (at_eigen up) self.old
-            → IsNext logic 0 result self.new (next_unnamed logic (at_eigen up) b) }
-    {
-        if !is_digit(b) {
-            return Err(TokenRefusal::Refused(Code::Unexpected));
-        }
-        self.mode = Mode::InEigen(u32::from(b - b'0'));
-        Ok(Progress::Going)
-    }
-
-    fn in_eigen(&mut self, number: u32, b: u8) -> Result<Progress, TokenRefusal>
-        ensures { (logic : Logic) (up : Around) → Stands logic (in_eigen up number) self.old
-            → IsNext logic 0 result self.new (next_unnamed logic (in_eigen up number) b) }
-    {
-        if let Some(grown) = with_digit(number, b) {
-            self.mode = Mode::InEigen(grown);
-            return Ok(Progress::Going);
-        }
-        match self.terms.eigen(u64::from(number)) {
-            Ok(true) => self.end_leaf(b),
-            Ok(false) => Err(TokenRefusal::Refused(Code::ManyArguments)),
-            Err(_) => Err(TokenRefusal::OutOfMemory),
-        }
-    }
-
-    fn at_index(&mut self, b: u8) -> Result<Progress, TokenRefusal>
-        ensures { (logic : Logic) (up : Around) → Stands logic (at_index up) self.old
-            → IsNext logic 0 result self.new (next_unnamed logic (at_index up) b) }
-    {
-        if !is_digit(b) || !self.binds(u32::from(b - b'0')) {
-            return Err(TokenRefusal::Refused(Code::Unexpected));
-        }
-        self.mode = Mode::InIndex(u32::from(b - b'0'));
-        Ok(Progress::Going)
-    }
-
-    /// Whether the quantifiers around the literal bind this index.
-    fn binds(&self, index: u32) -> bool
-        ensures { (up : Around) → self.now.formula ≡ formula_around up → result ≡ nat_lt index (depth_around up) }
-    {
-        (index as usize) < self.formula.quantifiers()
-    }
-
-    fn in_index(&mut self, index: u32, b: u8) -> Result<Progress, TokenRefusal>
-        ensures { (logic : Logic) (up : Around) → Stands logic (in_index up index) self.old
-            → IsNext logic 0 result self.new (next_unnamed logic (in_index up index) b) }
-    {
-        match with_digit(index, b) {
-            Some(grown) if self.binds(grown) => {
-                self.mode = Mode::InIndex(grown);
-                Ok(Progress::Going)
-            }
-            _ => self.end_index(index, b),
-        }
-    }
-
-    /// Takes the byte behind a bound index.
-    fn end_index(&mut self, index: u32, b: u8) -> Result<Progress, TokenRefusal>
-        ensures { (logic : Logic) (up : Around) → IsAround logic up self.old → IsNext logic 0 result self.new (end_term up (bound index) b) }
-    {
-        match self.terms.bound(index) {
-            Ok(true) => self.end_leaf(b),
-            Ok(false) => Err(TokenRefusal::Refused(Code::ManyArguments)),
-            Err(_) => Err(TokenRefusal::OutOfMemory),
-        }
-    }
-
-    fn behind_term(&mut self, b: u8) -> Result<Progress, TokenRefusal>
-        ensures { (logic : Logic) (up : Around) (t : Term) → Stands logic (behind_term up t) self.old → IsNext logic 0 result self.new (end_term up t b) }
-    {
-        match b {
-            b',' => self.end_argument(),
-            b')' => self.end_arguments(),
-            b'\n' => self.end_term(),
-            _ => Err(TokenRefusal::Refused(Code::Unexpected)),
-        }
-    }
-
-    /// Takes the comma behind an argument.
-    fn end_argument(&mut self) -> Result<Progress, TokenRefusal>
-        ensures { (logic : Logic) (up : Around) (t : Term) → Stands logic (behind_term up t) self.old → IsNext logic 0 result self.new (end_term up t 44) }
-    {
-        if self.stands_alone() {
-            return Err(TokenRefusal::Refused(Code::Unexpected));
-        }
-        if !self.terms.has_room() {
-            return Err(TokenRefusal::Refused(Code::ManyArguments));
-        }
-        self.mode = Mode::AtTerm;
-        Ok(Progress::Going)
-    }
-
-    /// Takes the parenthesis behind the last argument.
-    fn end_arguments(&mut self) -> Result<Progress, TokenRefusal>
-        ensures { (logic : Logic) (up : Around) (t : Term) → Stands logic (behind_term up t) self.old → IsNext logic 0 result self.new (end_term up t 41) }
-    {
-        if !self.terms.is_closed() {
-            self.terms.close();
-            return Ok(Progress::Going);
-        }
-        let outside = self.outside;
-        match outside {
-            Outside::Nothing => Err(TokenRefusal::Refused(Code::Unexpected)),
-            Outside::Literal(positive, name) => self.end_literal(positive, name),
-        }
-    }
-
-    /// Adds the literal whose arguments are whole.
-    fn end_literal(&mut self, positive: bool, name: NameId) -> Result<Progress, TokenRefusal>
-        ensures { (logic : Logic) (hs : List Hole) (ts : List Term) → IsLiteral logic hs ts self.old
-            → IsNext logic 0 result self.new (on (behind_formula hs (atom positive name (args_onto ts no_args)))) }
-    {
-        match self.add_literal(positive, name) {
-            Ok(()) => Ok(Progress::Going),
-            Err(refusal) => Err(refusal),
-        }
-    }
-
-    /// Takes the end of the line behind a term by itself.
-    fn end_term(&mut self) -> Result<Progress, TokenRefusal>
-        ensures { (logic : Logic) (up : Around) (t : Term) → Stands logic (behind_term up t) self.old → IsNext logic 0 result self.new (end_term up t 10) }
-    {
-        if !self.stands_alone() {
-            return Err(TokenRefusal::Refused(Code::Unexpected));
-        }
-        match self.terms.finish(self.alloc) {
-            Ok(Some(term)) => Ok(Progress::Term(term)),
-            Ok(None) => Err(TokenRefusal::Refused(Code::Unexpected)),
-            Err(_) => Err(TokenRefusal::OutOfMemory),
-        }
-    }
-
-    /// Whether the term that was read is no argument.
-    fn stands_alone(&self) -> bool
-        ensures { IsTrue result ↔ ((self.now.outside ≡ Outside.Nothing) × (self.now.terms.frames ≡ [])) }
-    {
-        self.outside == Outside::Nothing && self.terms.is_closed()
     }
 }
 

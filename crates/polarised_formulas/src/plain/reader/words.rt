@@ -1,13 +1,13 @@
-//! The words of the plain form, and the bytes of names and numbers.
-ghost use Rattle.std.specs.Prelude.{◌≡◌, ◌&&◌, ◌-◌, if◌then◌else◌, Some, None};
-ghost use Rattle.fpc_base.specs.Tokens.{is_digit};
+//! The words of the plain form, and the bytes of names.
+ghost use Rattle.std.specs.Prelude.{◌≡◌, List, Some, None};
 ghost use Rattle.fpc_terms.specs.Name.{is_small_letter, is_name_byte};
 ghost use Rattle.polarised_formulas.specs.declared.logic.Logic.TheVariants.{Lkf, Ljf};
-ghost use Rattle.polarised_formulas.specs.PlainReading.{first_with, begins_some, word_text, words, link_text, operators, can_grow, grown};
-ghost use Rattle.polarised_formulas.specs.PlainStanding.{word_found, operator_found, quantifier_with};
+ghost use Rattle.polarised_formulas.specs.PlainReading.{first_with, begins_some, word_text, words, link_text, operators, Hole, at_formula};
+ghost use Rattle.polarised_formulas.specs.PlainStanding.{word_found, operator_found, quantifier_with, begun, BeginsWord, next_unnamed};
 
 use crate::connective::Joiner;
 use crate::logic::{Logic, Polarity};
+use crate::plain::reader::Beginning;
 
 /// A word that begins a formula and is no name: a unit, or a quantifier with the blank behind it.
 #[derive(Clone, Copy, PartialEq, Eq, Debug)]
@@ -22,12 +22,6 @@ pub(crate) fn is_small_letter(b: u8) -> bool
     ensures { result ≡ is_small_letter b }
 {
     b >= b'a' && b <= b'z'
-}
-
-pub(crate) fn is_digit(b: u8) -> bool
-    ensures { result ≡ is_digit b }
-{
-    b >= b'0' && b <= b'9'
 }
 
 pub(crate) fn is_name_byte(b: u8) -> bool
@@ -83,6 +77,47 @@ fn quantifier_word(text: &[u8]) -> Option<Word>
         Some(Word::All)
     } else if b"some ".as_slice() == text {
         Some(Word::Some)
+    } else {
+        None
+    }
+}
+
+/// How a formula may begin with this byte.
+pub(crate) fn begins_with(logic: Logic, b: u8) -> Option<Beginning>
+    ensures begun { (hs : List Hole) → next_unnamed logic (at_formula hs) b ≡ begun hs b result }
+    ensures letter { (beginning : Beginning) → result ≡ Some beginning → BeginsWord logic b beginning }
+{
+    if b == b'(' {
+        return Some(Beginning::Pair);
+    }
+    match logic {
+        Logic::Lkf => begins_lkf_with(b),
+        Logic::Ljf => begins_ljf_with(b),
+    }
+}
+
+fn begins_lkf_with(b: u8) -> Option<Beginning>
+    ensures begun { (hs : List Hole) → Rattle.polarised_formulas.specs.PlainReading.first_byte Lkf hs b ≡ begun hs b result }
+    ensures letter { (beginning : Beginning) → result ≡ Some beginning → BeginsWord Lkf b beginning }
+{
+    if b == b'~' {
+        Some(Beginning::Mark(false))
+    } else if is_small_letter(b) {
+        Some(Beginning::Letter)
+    } else {
+        None
+    }
+}
+
+fn begins_ljf_with(b: u8) -> Option<Beginning>
+    ensures { (hs : List Hole) → Rattle.polarised_formulas.specs.PlainReading.first_byte Ljf hs b ≡ begun hs b result }
+{
+    if b == b'+' {
+        Some(Beginning::Mark(true))
+    } else if b == b'-' {
+        Some(Beginning::Mark(false))
+    } else if begins_word(&[b]) {
+        Some(Beginning::Letter)
     } else {
         None
     }
@@ -158,17 +193,5 @@ pub(crate) fn begins_operator(logic: Logic, text: &[u8]) -> bool
                 || b"| ".starts_with(text)
                 || b"=> ".starts_with(text)
         }
-    }
-}
-
-/// The number with one more digit, where the byte is one that may stand there: a number has at most nine digits, and none
-/// behind a 0.
-pub(crate) fn with_digit(number: u32, b: u8) -> Option<u32>
-    ensures { result ≡ (if can_grow number b then Some (grown number b) else None) }
-{
-    if is_digit(b) && (0 < number && number < 100_000_000) {
-        Some(10 * number + u32::from(b - b'0'))
-    } else {
-        None
     }
 }
