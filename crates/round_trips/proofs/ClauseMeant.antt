@@ -3,7 +3,7 @@ use Rattle.std.proofs.Common.{◌≡◌, ℕ, suc, ◌^◌, ◌≤◌, List, [],
 use Rattle.fpc_base.specs.declared.tokens.TokenKind.TheVariants.{Name}
 use Rattle.fpc_base.specs.Tokens.{HasForm}
 use Rattle.fpc_base.specs.Lexeme.{Lexeme}
-use Rattle.fpc_terms.specs.Term.{Term, Args, eigen, bound, variable, app, no_args, arg, count, EachArg, Never}
+use Rattle.fpc_terms.specs.Term.{Term, Args, eigen, bound, variable, app, no_args, arg, count, terms_in, EachArg, Never}
 use Rattle.fpc_terms.specs.Name.{Agrees, HasName, index_in}
 use Rattle.fpc_terms.specs.Written.{words, args_meant, variables_in}
 use Rattle.fpc_terms.specs.ReadTerm.{numbered}
@@ -11,17 +11,17 @@ use Rattle.polarised_formulas.specs.WrittenOf.{IsNamed, AreNamed}
 use Rattle.polarised_formulas.specs.EachName.{EachName, EachNameOf}
 use Rattle.polarised_formulas.specs.Size.{HasFew, AllHaveFew}
 use Rattle.polarised_formulas.proofs.Small.{words_count, IsSmall, AreSmall}
-use Rattle.polarised_formulas.proofs.Meant.{name_in-stands}
+use Rattle.polarised_formulas.proofs.Meant.{name_in-stands, number-of}
 use Rattle.clause_language.specs.declared.atom.Atom.{Atom}
 use Rattle.clause_language.specs.declared.clause.Clause.{Clause}
 use Rattle.clause_language.specs.Written.{WrittenAtom, WrittenClause, more_atom_tokens, body_tokens}
-use Rattle.clause_language.specs.Meant.{terms_in, clause_variables, atom_meant, clause_meant}
+use Rattle.clause_language.specs.Meant.{clause_variables, atom_meant, clause_meant}
 use Rattle.clause_language.specs.Text.{args_of}
 use Rattle.round_trips.specs.Spelled.{spelled_term, spelled_args, spelled_atom, spelled_clause}
 use Rattle.round_trips.specs.Order.{variables_to, variables_to_all, IsOrdered, AreOrdered, term_of_atom, atoms_as_args, atoms_of}
 use Rattle.round_trips.specs.EachName.{EachNameOfAtoms}
 use Rattle.round_trips.specs.Printable.{Below, IsClausePrintable}
-use Rattle.round_trips.proofs.VariableOrder.{texts_to_all, variables_in-args, ordered-whole_args, numbered_texts, length-numbered_texts, below-args, texts_to_all-spelled, number-of, args_meant-spelled}
+use Rattle.round_trips.proofs.VariableOrder.{texts_to_all, variables_in-args, ordered-whole_args, numbered_texts, length-numbered_texts, below-args, texts_to_all-spelled, args_meant-spelled}
 use Rattle.round_trips.proofs.MeantFacts.{named-args_meant, few-args_meant}
 use Rattle.round_trips.proofs.Sizes.{atoms_as_words, written_atoms, texts_of_clause}
 
@@ -53,7 +53,7 @@ atom_names P (a ∷ more) h = (h.0, atom_names P more h.1)
 
 -- an atom by its variables
 abbrev meant_atom : (List ℕ → ℕ) → List (List ℕ) → WrittenAtom → Atom
-meant_atom number variables a = atom_meant number variables a
+meant_atom number variables a = atom_meant number (index_in variables) a
 
 -- READ: what a clause means, by any numbers of its variables
 module _ (number : List ℕ → ℕ) (variables : List (List ℕ)) where

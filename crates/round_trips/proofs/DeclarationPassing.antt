@@ -1,13 +1,10 @@
 -- The limits let the machine of files pass the tokens of a declared formula exactly where it is small and its name is new.
 use Rattle.std.proofs.Common.{◌≡◌, ℕ, suc, ◌+◌, ◌≤◌, Bool, true, false, if◌then◌else◌, nat_eq, List, [], ◌∷◌, ◌++◌, length, refl, ap, sym, subst, arith, append_assoc, append-nil, length-append, Option, Some, Ok, Err}
-use Rattle.std.specs.List.{slice_get}
-use Rattle.std.proofs.lemmas.Option.{slice_get_within}
 use Rattle.fpc_base.specs.declared.refusal.Code.TheVariants.{ManyArguments}
 use Rattle.fpc_base.specs.declared.tokens.lexeme.Sign.TheVariants as sign
 use Rattle.fpc_base.specs.Lexeme.{Lexeme, a_name, a_variable, a_sign}
 use Rattle.fpc_base.specs.Tokens.{is_one_of}
-use Rattle.fpc_terms.specs.Name.{AreDifferent, HasName}
-use Rattle.fpc_terms.proofs.Places.{got_before, is_one_of-absent}
+use Rattle.fpc_terms.specs.Name.{AreDifferent}
 use Rattle.polarised_formulas.specs.declared.logic.Logic.{Logic}
 use Rattle.polarised_formulas.specs.Written.{WrittenFormula, formula_tokens, IsBound, IsWrittenIn}
 use Rattle.polarised_formulas.specs.Place.{whole}
@@ -25,24 +22,13 @@ use Rattle.clause_language.specs.Written.{WrittenItem, declaration, more_paramet
 use Rattle.clause_language.specs.Limits.{declared_names}
 use Rattle.clause_language.specs.DeclarationMachine.{DeclarationState, at_name, behind_name, at_parameter, behind_parameter, at_defined, in_formula, stuck}
 use Rattle.clause_language.specs.DeclarationMachine as declaring
-use Rattle.clause_language.specs.FileMachine.{FileState, at_item, in_declaration, declared, declared_within, begun, within, step}
+use Rattle.clause_language.specs.FileMachine.{FileState, at_item, in_declaration, declared, declared_within, begun, within}
+use Rattle.clause_language.proofs.Parameters.{absent-before}
+use Rattle.clause_language.proofs.DeclarationLaws.{read_on-live}
 use Rattle.round_trips.proofs.TermPassing.{not-equal}
 use Rattle.round_trips.proofs.ClausePassing.{Passes}
 use Rattle.round_trips.proofs.Sizes.{IsItemSmall}
-use Rattle.round_trips.proofs.CopiedPassed.{passed-formula}
-
--- a text behind different ones is none of them
-pub is_one_of-later : (done : List (List ℕ)) (y : List ℕ) (more : List (List ℕ)) → AreDifferent (done ++ y ∷ more) → is_one_of done y ≡ false
-is_one_of-later done y more h = is_one_of-absent done y absent where
-  at-end : (xs : List (List ℕ)) → slice_get (xs ++ y ∷ more) (length xs) ≡ Some y
-  at-end [] = refl
-  at-end (x ∷ xs) = at-end xs
-
-  absent : HasName done y → ⊥
-  absent n =
-      let same : n.0 ≡ length done = h n.0 (length done) y (got_before done (y ∷ more) n.0 y n.1) (at-end done) in
-      let lt = slice_get_within done n.0 y n.1 in
-      omega (arith, same, lt)
+use Rattle.polarised_formulas.proofs.Passed.{passed-formula}
 
 module _ (logic : Logic) (parameters : List (List ℕ)) where
   formula-within : (t : formula.FormulaState) → formula_states.IsLive t → formula.within false false t ≡ Ok t
@@ -55,10 +41,6 @@ module _ (logic : Logic) (parameters : List (List ℕ)) where
   formula-tests x items true full t u live h = cc
   formula-tests x items false true t u live h = cc
   formula-tests x items false false t u live h = (refl, refl)
-
-  read_on-live : (x : List ℕ) (t : formula.FormulaState) → formula_states.IsLive t → declaring.read_on x parameters t ≡ in_formula x parameters t
-  read_on-live x formula.stuck live = absurd live
-  read_on-live x _ live = refl
 
   whole-shallow : (s : formula.FormulaState) (w : WrittenFormula) → formula.whole_of s ≡ Some w → formula.is_deep s ≡ false
   whole-shallow (formula.wants p) w e = cc
@@ -85,7 +67,7 @@ module _ (kind : FileKind) (expected : Option Logic) (earlier : List (List ℕ))
         let F : DeclarationState → Type 0 = λ e.
         (declared_within logic items (declaring.read_within x parameters (formula.within (formula.is_deep s) (formula.is_full t) t)) ≡ Ok (declared logic items e))
         × To (declared logic items e) cs in
-        subst F (sym (read_on-live logic parameters x t live)) (ap (λ r. declared_within logic items (declaring.read_within x parameters r)) taken, h)
+        subst F (sym (read_on-live x parameters t live)) (ap (λ r. declared_within logic items (declaring.read_within x parameters r)) taken, h)
 
     formula-back : (s : formula.FormulaState) (c : Lexeme) (cs : List Lexeme) → formula_states.IsLive (formula.step logic parameters s c) → InFormula s (c ∷ cs)
         → (formula.is_deep s ≡ false) × (formula.is_full (formula.step logic parameters s c) ≡ false) × InFormula (formula.step logic parameters s c) cs
@@ -93,7 +75,7 @@ module _ (kind : FileKind) (expected : Option Logic) (earlier : List (List ℕ))
     formula-back s c cs live h =
         let t : formula.FormulaState = formula.step logic parameters s c in
         let tests = formula-tests logic parameters x items (formula.is_deep s) (formula.is_full t) t (declared logic items (declaring.read_on x parameters t)) live h.0 in
-        (tests.0, tests.1, subst (λ e. To (declared logic items e) cs) (read_on-live logic parameters x t live) h.1)
+        (tests.0, tests.1, subst (λ e. To (declared logic items e) cs) (read_on-live x parameters t live) h.1)
 
     formula-dot : (s : formula.FormulaState) (w : WrittenFormula) (rest : List Lexeme) → formula.whole_of s ≡ Some w → Behind x parameters w rest
         → InFormula s (a_sign sign.Dot ∷ rest)
@@ -162,7 +144,7 @@ module _ (kind : FileKind) (expected : Option Logic) (earlier : List (List ℕ))
   pass-parameters x done [] rest d le h = (refl, subst (λ l. To (in_declaration logic items (at_defined x l)) rest) (append-nil done) h)
   pass-parameters x done (y ∷ ys) rest d le h =
       let room : nat_eq (length done) 255 ≡ false = not-equal (length done) 255 (λ e. omega (arith, le, e)) in
-      let new : is_one_of done y ≡ false = is_one_of-later done y ys d in
+      let new : is_one_of done y ≡ false = absent-before done ys y d in
       let seam : (done ++ y ∷ []) ++ ys ≡ done ++ y ∷ ys = append_assoc done (y ∷ []) ys in
       let size : length (done ++ y ∷ []) ≡ suc (length done) = omega (arith, length-append done (y ∷ [])) in
       let later : To (in_declaration logic items (behind_parameter x (done ++ y ∷ []))) (more_parameter_tokens ys rest) =
@@ -213,7 +195,7 @@ module _ (kind : FileKind) (expected : Option Logic) (earlier : List (List ℕ))
   back-parameters x done (y ∷ ys) rest d le h =
       let room : nat_eq (length done) 255 ≡ false = comma-test (nat_eq (length done) 255) x done (in_declaration logic items (at_parameter x done)) h.0 in
       let lt = less-than (length done) 255 room le in
-      let new : is_one_of done y ≡ false = is_one_of-later done y ys d in
+      let new : is_one_of done y ≡ false = absent-before done ys y d in
       let seam : (done ++ y ∷ []) ++ ys ≡ done ++ y ∷ ys = append_assoc done (y ∷ []) ys in
       let size : length (done ++ y ∷ []) ≡ suc (length done) = omega (arith, length-append done (y ∷ [])) in
       let one : To (in_declaration logic items (behind_parameter x (done ++ y ∷ []))) (more_parameter_tokens ys rest) =

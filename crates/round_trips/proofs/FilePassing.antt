@@ -2,31 +2,32 @@
 use Rattle.std.proofs.Common.{◌≡◌, ℕ, Bool, true, false, if◌then◌else◌, List, [], ◌∷◌, ◌++◌, refl, ap, sym, subst, ◌∙◌, append_assoc, append-nil, Option, Ok, Err}
 use Rattle.fpc_base.specs.declared.refusal.Code.TheVariants.{WrongCalculus}
 use Rattle.fpc_base.specs.declared.tokens.lexeme.Sign.TheVariants as sign
-use Rattle.fpc_base.specs.Lexeme.{Lexeme, a_sign}
+use Rattle.fpc_base.specs.declared.refusal.Code.{Code}
+use Rattle.fpc_base.specs.Lexeme.{Lexeme, a_sign, Item, says}
+use Rattle.fpc_base.specs.Reading.{IsTaken, ReadsAll}
+use Rattle.fpc_base.specs.Reading as reading
 use Rattle.fpc_terms.specs.Written.{WrittenTerm, term_tokens}
 use Rattle.polarised_formulas.specs.declared.logic.Logic.{Logic}
 use Rattle.polarised_formulas.specs.declared.logic.Logic.TheVariants.{Lkf, Ljf}
 use Rattle.polarised_formulas.specs.Written.{logic_word}
+use Rattle.polarised_formulas.specs.Spoken.{Says}
 use Rattle.polarised_formulas.proofs.Small.{IsSmall}
 use Rattle.clause_language.specs.declared.file.FileKind.{FileKind}
 use Rattle.clause_language.specs.declared.file.FileKind.TheVariants.{Certificate}
 use Rattle.clause_language.specs.Written.{WrittenItem, declaration, a_clause, items_tokens, AreItemsOf}
 use Rattle.clause_language.specs.Limits.{declared_names}
-use Rattle.clause_language.specs.FileMachine.{FileState, start, at_item, finished, is_other}
+use Rattle.clause_language.specs.FileMachine.{FileState, start, at_item, finished, is_other, step, limited}
+use Rattle.clause_language.specs.ReadFile.{answered, read_items}
+use Rattle.clause_language.proofs.FileLaws.{declared_names-append, file_behind, file_behind-step}
 use Rattle.round_trips.proofs.Sizes.{AreItemsSmall}
 use Rattle.round_trips.specs.Printable.{AreNew}
 use Rattle.round_trips.proofs.ClausePassing.{Passes, pass-clause, passed-clause, pass-last_term, passed-last_term}
 use Rattle.round_trips.proofs.DeclarationPassing.{pass-declaration, passed-declaration}
 
--- the names of the declared formulas, and one more
-names-declared : (done : List WrittenItem) (i : WrittenItem) → declared_names (done ++ i ∷ []) ≡ declared_names done ++ declared_names (i ∷ [])
-names-declared [] i = sym (append-nil (declared_names (i ∷ []))) ∙ append-nil (declared_names (i ∷ []))
-names-declared (declaration x ps w ∷ done) i = ap (λ l. x ∷ l) (names-declared done i)
-names-declared (a_clause c ∷ done) i = names-declared done i
-
+-- the names of earlier and declared formulas, and of one item more
 names-behind : (earlier : List (List ℕ)) (done : List WrittenItem) (i : WrittenItem)
     → earlier ++ declared_names (done ++ i ∷ []) ≡ (earlier ++ declared_names done) ++ declared_names (i ∷ [])
-names-behind earlier done i = ap (λ l. earlier ++ l) (names-declared done i) ∙ sym (append_assoc earlier (declared_names done) (declared_names (i ∷ [])))
+names-behind earlier done i = ap (λ l. earlier ++ l) (declared_names-append done (i ∷ [])) ∙ sym (append_assoc earlier (declared_names done) (declared_names (i ∷ [])))
 
 module _ (kind : FileKind) (expected : Option Logic) (earlier : List (List ℕ)) (goal : FileState) (logic : Logic) where
   abbrev To : FileState → List Lexeme → Type 0
@@ -94,3 +95,42 @@ pass-certificate_term expected earlier logic items t small =
 pub passed-certificate_term : (expected : Option Logic) (earlier : List (List ℕ)) (goal : FileState) (logic : Logic) (items : List WrittenItem) (t : WrittenTerm)
     → Passes Certificate expected earlier (at_item logic items) (a_sign sign.Certificate ∷ term_tokens t (a_sign sign.Dot ∷ [])) goal → IsSmall t
 passed-certificate_term expected earlier goal logic items t h = (passed-last_term Certificate expected earlier goal logic items t h.1).0
+
+-- along items that say the tokens
+pub read-passes : (kind : FileKind) (expected : Option Logic) (earlier : List (List ℕ)) (tokens : List Lexeme) (items : List Item) (s t : FileState)
+    → Says tokens items → Passes kind expected earlier s tokens t → read_items kind expected earlier s items ≡ Ok t
+read-passes kind expected earlier [] [] s t said h = ap Ok h
+read-passes kind expected earlier (c ∷ cs) (says d at ∷ items) s t said h =
+    let one : limited kind expected earlier s d ≡ Ok (step kind s c) = subst (λ e. limited kind expected earlier s e ≡ Ok (step kind s c)) said.0 h.0 in
+    ap (λ r. answered at r (λ u. read_items kind expected earlier u items)) one ∙ read-passes kind expected earlier cs items (step kind s c) t said.1 h.1
+read-passes kind expected earlier _ _ s t said h = absurd said
+
+-- what was read behind other tokens: tokens that its items say, that are whole with the others, and that pass
+pub record IsPassed {W : Type 0} (kind : FileKind) (expected : Option Logic) (earlier : List (List ℕ)) (IsWhole : List Lexeme → W → Type 0) (before : List Lexeme) (items : List Item) (w : W) : Type 0 where
+  pub tokens : List Lexeme
+  pub state : FileState
+  pub said : Says tokens items
+  pub is_whole : IsWhole (before ++ tokens) w
+  pub passes : Passes kind expected earlier (file_behind kind before) tokens state
+
+-- for a kind whose machine takes what the grammar takes
+module _ {W : Type 0} (kind : FileKind) (expected : Option Logic) (earlier : List (List ℕ)) (IsWhole : List Lexeme → W → Type 0) (Limits : List Lexeme → Lexeme → Code → Type 0)
+    (taken : (before : List Lexeme) (c : Lexeme) → IsTaken IsWhole Limits before c
+    → limited kind expected earlier (file_behind kind before) c ≡ Ok (step kind (file_behind kind before) c)) where
+  pub passes-read : (before : List Lexeme) (items : List Item) (w : W) → ReadsAll IsWhole Limits before items w → IsPassed kind expected earlier IsWhole before items w
+  passes-read before _ w (reading.ReadsAll.at_end h) = record {
+    tokens = [];
+    state = file_behind kind before;
+    said = tt;
+    is_whole = subst (λ l. IsWhole l w) (sym (append-nil before)) h;
+    passes = refl;
+  }
+  passes-read before _ w (reading.ReadsAll.later {c = c} {items = items} k h) =
+      let r = passes-read (before ++ c ∷ []) items w h in
+      record {
+        tokens = c ∷ r.tokens;
+        state = r.state;
+        said = (refl, r.said);
+        is_whole = subst (λ l. IsWhole l w) (append_assoc before (c ∷ []) r.tokens) r.is_whole;
+        passes = (taken before c k, subst (λ s. Passes kind expected earlier s r.tokens r.state) (file_behind-step kind before c) r.passes);
+      }

@@ -18,7 +18,7 @@ use Rattle.round_trips.specs.Spelled.{parameters_from, spelled_clause, spelled_d
 use Rattle.round_trips.specs.EachName.{EachNameOfItem, EachNameOfItems}
 use Rattle.round_trips.specs.Printable.{IsDeclarationPrintable, AreDeclaredPrintable, IsClausePrintable, AreClausesPrintable, declared_texts}
 use Rattle.round_trips.proofs.VariableOrder.{length-numbered_texts}
-use Rattle.round_trips.proofs.Parameters.{length-parameters_from, AreDifferent-parameters_from, bound-written_of, in_table-written_of, meant-written_of}
+use Rattle.round_trips.proofs.ParametersMeant.{length-parameters_from, AreDifferent-parameters_from, bound-written_of, in_table-written_of, meant-written_of}
 use Rattle.round_trips.proofs.MeantFacts.{name_in-number, formed-number, scoped-formula_meant, logic-formula_meant, named-formula_meant}
 use Rattle.round_trips.proofs.ClauseMeant.{printable-clause, small-spelled_clause, texts-spelled_clause, in_table-spelled_clause, clause_meant-spelled}
 use Rattle.round_trips.proofs.Sizes.{IsItemSmall, AreItemsSmall, texts_of_clause}

@@ -1,5 +1,5 @@
 -- The names that the tokens of a definition or a certificate say are name tokens.
-use Rattle.std.proofs.Common.{ℕ, ◌-◌, List, [], ◌∷◌}
+use Rattle.std.proofs.Common.{ℕ, List, [], ◌∷◌}
 use Rattle.fpc_base.specs.declared.tokens.TokenKind.TheVariants.{Name}
 use Rattle.fpc_base.specs.declared.tokens.lexeme.Sign.TheVariants as sign
 use Rattle.fpc_base.specs.Tokens.{tokens_of, HasForm}
@@ -12,7 +12,7 @@ use Rattle.polarised_formulas.specs.EachName.{EachName}
 use Rattle.polarised_formulas.specs.Spoken.{Says}
 use Rattle.clause_language.specs.Written.{WrittenAtom, WrittenItem, declaration, a_clause, more_atom_tokens, body_tokens, more_parameter_tokens, parameter_tokens, item_tokens, items_tokens}
 use Rattle.round_trips.specs.EachName.{EachNameOfAtoms, EachNameOfItem, EachNameOfItems}
-use Rattle.round_trips.proofs.CopiedNamed.{AreFormed-behind, AreNames, AreNames-said, named-term, named-args, named-formula}
+use Rattle.polarised_formulas.proofs.Named.{AreFormed-behind, AreNames, AreNames-said, named-term, named-args, named-formula}
 
 -- the names of items are among their tokens
 named-more_atoms : (more : List WrittenAtom) (rest : List Lexeme) → AreNames (more_atom_tokens more rest) → EachNameOfAtoms (HasForm Name) more × AreNames rest

@@ -10,7 +10,7 @@ use Rattle.fpc_base.specs.Tokens.{is_word_byte}
 use Rattle.polarised_formulas.proofs.Pieces.{Scans, stops, scans-piece}
 use Rattle.clause_language.specs.Text.{parameter_text}
 use Rattle.round_trips.specs.Spelled.{variable_text}
-use Rattle.round_trips.proofs.Copied.{prefix-stops, digits-pass}
+use Rattle.polarised_formulas.proofs.Pieces.{prefix-stops, digits-pass}
 
 -- how far the digits go
 digits-length : (j : ℕ) (rest : List ℕ) → j < 2 ^ 64 → stops rest ≡ true → 1 + prefix_len is_word_byte (decimal j ++ rest) ≡ suc (length (decimal j))

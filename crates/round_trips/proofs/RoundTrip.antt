@@ -1,11 +1,9 @@
 -- A definition or a certificate that was read and is printed is read back.
-use Rattle.std.proofs.Common.{◌≡◌, ℕ, ◌<◌, ◌^◌, List, [], ◌∷◌, ◌++◌, length, refl, ap, sym, subst, ◌∙◌, arith, append-nil, append_assoc, Option, false}
-use Rattle.fpc_base.specs.declared.refusal.Code.{Code}
+use Rattle.std.proofs.Common.{◌≡◌, ℕ, ◌<◌, ◌^◌, List, [], ◌∷◌, ◌++◌, length, refl, ap, sym, subst, ◌∙◌, arith, append-nil, Option, false}
 use Rattle.fpc_base.specs.declared.tokens.TokenKind.TheVariants.{Name}
 use Rattle.fpc_base.specs.declared.tokens.lexeme.Sign.TheVariants as sign
-use Rattle.fpc_base.specs.Lexeme.{Lexeme, a_sign, Item, says, items_of}
+use Rattle.fpc_base.specs.Lexeme.{Lexeme, a_sign, Item, items_of}
 use Rattle.fpc_base.specs.Reading.{ReadsAll}
-use Rattle.fpc_base.specs.Reading as reading
 use Rattle.fpc_base.specs.Tokens.{HasForm}
 use Rattle.fpc_terms.specs.Term.{Term, Each, Never}
 use Rattle.fpc_terms.specs.Name.{Agrees, HasName, index_in}
@@ -18,14 +16,15 @@ use Rattle.polarised_formulas.specs.EachName.{EachName}
 use Rattle.polarised_formulas.proofs.Small.{IsSmall}
 use Rattle.clause_language.specs.declared.clause.Clause.{Clause}
 use Rattle.clause_language.specs.declared.declaration.DeclaredFormula.{DeclaredFormula}
-use Rattle.clause_language.specs.declared.definition.Definition.{Definition}
-use Rattle.clause_language.specs.declared.certificate.Certificate.{Certificate}
 use Rattle.clause_language.specs.declared.file.FileKind.TheVariants as kind
 use Rattle.clause_language.specs.Written.{WrittenItem, WrittenDefinition, WrittenCertificate, items_tokens, AreItemsOf, IsDefinition, IsCertificate}
 use Rattle.clause_language.specs.Meant.{term_variables, declared_meant, clauses_meant, definition_meant, certificate_meant}
 use Rattle.clause_language.specs.Limits.{declared_names, DefinitionLimits, CertificateLimits}
 use Rattle.clause_language.specs.Text.{definition_text, certificate_text}
-use Rattle.clause_language.specs.FileMachine.{FileState, start, at_item, finished, is_other}
+use Rattle.clause_language.specs.FileMachine.{FileState, start, at_item, finished, is_other, step}
+use Rattle.clause_language.proofs.FileLaws.{file_behind}
+use Rattle.clause_language.proofs.FileLimits.{definition_taken-told, certificate_taken-told}
+use Rattle.clause_language.proofs.FileReading.{definition-reads, certificate-reads}
 use Rattle.round_trips.specs.Spelled.{spelled_term, spelled_items, spelled_definition, spelled_certificate}
 use Rattle.round_trips.specs.Order.{variables_to, IsOrdered}
 use Rattle.round_trips.specs.EachName.{EachNameOfItems}
@@ -34,48 +33,12 @@ use Rattle.round_trips.specs.RoundTrip.{DefinitionTextIsRead, ReadDefinitionIsPr
 use Rattle.round_trips.proofs.VariableOrder.{texts_to, variables_in-term, ordered-whole_term, numbered_texts, length-numbered_texts, below-term, texts_to-spelled, term_meant-spelled}
 use Rattle.round_trips.proofs.Sizes.{AreItemsSmall}
 use Rattle.round_trips.proofs.ClausePassing.{Passes}
-use Rattle.round_trips.proofs.FilePassing.{pass-items, passed-items, pass-word, passed-word, pass-certificate_term, passed-certificate_term}
-use Rattle.round_trips.proofs.ReadItems.{read-passes, passes-read}
+use Rattle.round_trips.proofs.FilePassing.{pass-items, passed-items, pass-word, passed-word, pass-certificate_term, passed-certificate_term, read-passes, IsPassed, passes-read}
 use Rattle.round_trips.proofs.MeantFacts.{named-term_meant, few-term_meant}
 use Rattle.round_trips.proofs.ClauseMeant.{small-spelled_term, in_table-spelled_term}
 use Rattle.round_trips.proofs.ItemsMeant.{printable-declared, printable-clauses, texts-declared, of_logic-spelled, small-spelled, known-spelled, names-spelled, declared_meant-spelled, clauses_meant-spelled}
 use Rattle.round_trips.proofs.FileScan.{Says-definition_text, Says-certificate_text}
 use Rattle.round_trips.proofs.NamesSaid.{EachNameOfItems-said, EachName-said_term}
-use Rattle.round_trips.proofs.Stubs.{definition-reads, reads-definition, certificate-reads, reads-certificate}
-
--- what was read is said by its tokens, for any grammar
-module _ {W : Type 0} (IsWhole : List Lexeme → W → Type 0) (Limits : List Lexeme → Lexeme → Code → Type 0) where
-  record IsSaid (before : List Lexeme) (items : List Item) (w : W) : Type 0 where
-    tokens : List Lexeme
-    said : Says tokens items
-    is_whole : IsWhole (before ++ tokens) w
-
-  IsSaid-read : (before : List Lexeme) (items : List Item) (w : W) → ReadsAll IsWhole Limits before items w → IsSaid before items w
-  IsSaid-read before _ w (reading.ReadsAll.at_end h) = record {
-    tokens = [];
-    said = tt;
-    is_whole = subst (λ l. IsWhole l w) (sym (append-nil before)) h;
-  }
-  IsSaid-read before _ w (reading.ReadsAll.later {c = c} {items = items} t h) =
-      let r = IsSaid-read (before ++ c ∷ []) items w h in
-      record {
-        tokens = c ∷ r.tokens;
-        said = (refl, r.said);
-        is_whole = subst (λ l. IsWhole l w) (append_assoc before (c ∷ []) r.tokens) r.is_whole;
-      }
-
--- items say one list of tokens
-Says-once : (cs ds : List Lexeme) (items : List Item) → Says cs items → Says ds items → cs ≡ ds
-Says-once [] [] [] h k = refl
-Says-once (c ∷ cs) (d ∷ ds) (says e at ∷ items) h k =
-    let first : c ≡ d = h.0 ∙ sym k.0 in
-    let later : cs ≡ ds = Says-once cs ds items h.1 k.1 in
-    rw (first, later) refl
-Says-once [] (d ∷ ds) [] h k = absurd k
-Says-once (c ∷ cs) ds [] h k = absurd h
-Says-once [] ds (i ∷ items) h k = absurd h
-Says-once (c ∷ cs) [] (i ∷ items) h k = absurd k
-Says-once cs ds items h k = absurd h
 
 -- what passed of the items of a file
 record AreWithin (expected : Option Logic) (earlier : List (List ℕ)) (logic : Logic) (items : List WrittenItem) : Type 0 where
@@ -119,23 +82,26 @@ definition-text_read expected names number d agrees p =
       meant = rw (declared_meant-spelled names number agrees d.logic d.declared d.clauses formulas, clauses_meant-spelled names number agrees d.declared d.clauses rules) refl;
     }
 
-within-definition : (expected : Option Logic) (items : List Item) (w : WrittenDefinition) (tokens : List Lexeme) → Says tokens items → IsDefinition tokens w
-    → ReadsAll IsDefinition (DefinitionLimits expected) [] items w → AreWithin expected [] w.logic w.items
-within-definition expected items w tokens said is_whole read =
-    let s = reads-definition expected items w read in
-    let p = passes-read kind.Definition expected [] items start s.0 s.1.0 in
-    let spelled : p.tokens ≡ logic_word w.logic ∷ items_tokens w.logic w.items [] = Says-once p.tokens tokens items p.said said ∙ is_whole.spelled in
-    let word = passed-word kind.Definition expected [] s.0 w.logic (items_tokens w.logic w.items [])
-    (subst (λ l. Passes kind.Definition expected [] start l s.0) spelled p.passes) in
-    let passed = passed-items kind.Definition expected [] s.0 w.logic w.items [] [] is_whole.of_logic word.1 in
+definition-passed : (expected : Option Logic) (items : List Item) (w : WrittenDefinition) → ReadsAll IsDefinition (DefinitionLimits expected) [] items w
+    → IsPassed kind.Definition expected [] IsDefinition [] items w
+definition-passed expected items w read =
+    passes-read kind.Definition expected [] IsDefinition (DefinitionLimits expected)
+    (λ before c k. (definition_taken-told expected before c (step kind.Definition (file_behind kind.Definition before) c)).1 (k, refl)) [] items w read
+
+within-definition : (expected : Option Logic) (items : List Item) (w : WrittenDefinition) → IsPassed kind.Definition expected [] IsDefinition [] items w
+    → AreWithin expected [] w.logic w.items
+within-definition expected items w p =
+    let word = passed-word kind.Definition expected [] p.state w.logic (items_tokens w.logic w.items [])
+    (subst (λ l. Passes kind.Definition expected [] start l p.state) p.is_whole.spelled p.passes) in
+    let passed = passed-items kind.Definition expected [] p.state w.logic w.items [] [] p.is_whole.of_logic word.1 in
     record { is_expected = word.0; small = passed.0; new = passed.1 }
 
 printable-definition : (expected : Option Logic) (names : List (List ℕ)) (number : List ℕ → ℕ) (bytes : List ℕ) (w : WrittenDefinition) → Agrees number names
     → ReadsAll IsDefinition (DefinitionLimits expected) [] (items_of bytes) w → EachNameOfItems (HasName names) w.items → IsDefinitionPrintable expected names (definition_meant number w)
 printable-definition expected names number bytes w agrees read known =
-    let r = IsSaid-read IsDefinition (DefinitionLimits expected) [] (items_of bytes) w read in
-    let said : Says (logic_word w.logic ∷ items_tokens w.logic w.items []) (items_of bytes) = subst (λ l. Says l (items_of bytes)) r.is_whole.spelled r.said in
-    printable-items expected [] names number agrees w.logic w.items r.is_whole.of_logic (within-definition expected (items_of bytes) w r.tokens r.said r.is_whole read)
+    let p = definition-passed expected (items_of bytes) w read in
+    let said : Says (logic_word w.logic ∷ items_tokens w.logic w.items []) (items_of bytes) = subst (λ l. Says l (items_of bytes)) p.is_whole.spelled p.said in
+    printable-items expected [] names number agrees w.logic w.items p.is_whole.of_logic (within-definition expected (items_of bytes) w p)
     known (EachNameOfItems-said bytes w.logic w.items [] said)
 
 pub definition-printable : ReadDefinitionIsPrintable
@@ -189,19 +155,22 @@ record IsWithin (expected : Option Logic) (earlier : List (List ℕ)) (w : Writt
   items : AreWithin expected earlier w.logic w.items
   small : IsSmall w.term
 
-within-certificate : (expected : Option Logic) (earlier : List (List ℕ)) (items : List Item) (w : WrittenCertificate) (tokens : List Lexeme) → Says tokens items → IsCertificate tokens w
-    → ReadsAll IsCertificate (CertificateLimits expected earlier) [] items w → IsWithin expected earlier w
-within-certificate expected earlier items w tokens said is_whole read =
+certificate-passed : (expected : Option Logic) (earlier : List (List ℕ)) (items : List Item) (w : WrittenCertificate)
+    → ReadsAll IsCertificate (CertificateLimits expected earlier) [] items w → IsPassed kind.Certificate expected earlier IsCertificate [] items w
+certificate-passed expected earlier items w read =
+    passes-read kind.Certificate expected earlier IsCertificate (CertificateLimits expected earlier)
+    (λ before c k. (certificate_taken-told expected earlier before c (step kind.Certificate (file_behind kind.Certificate before) c)).1 (k, refl)) [] items w read
+
+within-certificate : (expected : Option Logic) (earlier : List (List ℕ)) (items : List Item) (w : WrittenCertificate)
+    → IsPassed kind.Certificate expected earlier IsCertificate [] items w → IsWithin expected earlier w
+within-certificate expected earlier items w p =
     let last : List Lexeme = a_sign sign.Certificate ∷ term_tokens w.term (a_sign sign.Dot ∷ []) in
-    let s = reads-certificate expected earlier items w read in
-    let p = passes-read kind.Certificate expected earlier items start s.0 s.1.0 in
-    let spelled : p.tokens ≡ logic_word w.logic ∷ items_tokens w.logic w.items last = Says-once p.tokens tokens items p.said said ∙ is_whole.spelled in
-    let word = passed-word kind.Certificate expected earlier s.0 w.logic (items_tokens w.logic w.items last)
-    (subst (λ l. Passes kind.Certificate expected earlier start l s.0) spelled p.passes) in
-    let passed = passed-items kind.Certificate expected earlier s.0 w.logic w.items [] last is_whole.of_logic word.1 in
+    let word = passed-word kind.Certificate expected earlier p.state w.logic (items_tokens w.logic w.items last)
+    (subst (λ l. Passes kind.Certificate expected earlier start l p.state) p.is_whole.spelled p.passes) in
+    let passed = passed-items kind.Certificate expected earlier p.state w.logic w.items [] last p.is_whole.of_logic word.1 in
     record {
       items = record { is_expected = word.0; small = passed.0; new = subst (λ l. AreNew l (declared_names w.items)) (append-nil earlier) passed.1 };
-      small = passed-certificate_term expected earlier s.0 w.logic w.items w.term passed.2;
+      small = passed-certificate_term expected earlier p.state w.logic w.items w.term passed.2;
     }
 
 printable-certificate : (expected : Option Logic) (earlier names : List (List ℕ)) (number : List ℕ → ℕ) (bytes : List ℕ) (w : WrittenCertificate) → Agrees number names
@@ -209,16 +178,16 @@ printable-certificate : (expected : Option Logic) (earlier names : List (List �
     → IsCertificatePrintable expected earlier names (certificate_meant number w)
 printable-certificate expected earlier names number bytes w agrees read known term_known =
     let last : List Lexeme = a_sign sign.Certificate ∷ term_tokens w.term (a_sign sign.Dot ∷ []) in
-    let r = IsSaid-read IsCertificate (CertificateLimits expected earlier) [] (items_of bytes) w read in
-    let said : Says (logic_word w.logic ∷ items_tokens w.logic w.items last) (items_of bytes) = subst (λ l. Says l (items_of bytes)) r.is_whole.spelled r.said in
-    let within = within-certificate expected earlier (items_of bytes) w r.tokens r.said r.is_whole read in
+    let p = certificate-passed expected earlier (items_of bytes) w read in
+    let said : Says (logic_word w.logic ∷ items_tokens w.logic w.items last) (items_of bytes) = subst (λ l. Says l (items_of bytes)) p.is_whole.spelled p.said in
+    let within = within-certificate expected earlier (items_of bytes) w p in
     let leaf : List ℕ → Term = numbered (index_in (term_variables w.term)) in
     let vs : term_variables w.term ≡ texts_to w.term [] = term_variables-texts w.term in
     let ordered : IsOrdered (term_meant number leaf w.term) 0 × (variables_to (term_meant number leaf w.term) 0 ≡ length (term_variables w.term)) =
     subst (λ us. IsOrdered (term_meant number (numbered (index_in us)) w.term) 0 × (variables_to (term_meant number (numbered (index_in us)) w.term) 0 ≡ length us)) (sym vs)
     (ordered-whole_term number w.term) in
     record {
-      items = printable-items expected earlier names number agrees w.logic w.items r.is_whole.of_logic within.items known (EachNameOfItems-said bytes w.logic w.items last said);
+      items = printable-items expected earlier names number agrees w.logic w.items p.is_whole.of_logic within.items known (EachNameOfItems-said bytes w.logic w.items last said);
       named = named-term_meant names number agrees leaf (λ x. tt) w.term term_known (EachName-said_term bytes w.logic w.items w.term (a_sign sign.Dot ∷ []) said);
       few = few-term_meant number leaf (λ x. tt) w.term within.small;
       ordered = ordered.0;

@@ -1,22 +1,21 @@
 -- The variables of what was read occur first in the order of their numbers, and printed ones are numbered back.
-use Rattle.std.proofs.Common.{◌≡◌, ℕ, zero, suc, ◌+◌, ◌^◌, ◌<◌, ◌≤◌, Bool, true, false, if◌then◌else◌, nat_eq, List, [], ◌∷◌, ◌++◌, length, refl, ap, sym, subst, ◌∙◌, arith, Some, inl, inr, length-append}
+use Rattle.std.proofs.Common.{◌≡◌, ℕ, zero, suc, ◌^◌, ◌<◌, ◌≤◌, Bool, true, false, if◌then◌else◌, nat_eq, List, [], ◌∷◌, ◌++◌, length, refl, ap, sym, subst, ◌∙◌, arith, Some, inl, inr, length-append}
 use Rattle.std.specs.List.{slice_get}
 use Rattle.std.specs.Fmt.{decimal}
 use Rattle.std.proofs.lemmas.Fmt.{decimal_injective}
 use Rattle.std.proofs.lemmas.Option.{slice_get_within}
 use Rattle.std.proofs.lemmas.Bool.Decides.{nat_tests}
 use Rattle.std.proofs.lemmas.Bool.{cases_Bool}
-use Rattle.fpc_base.specs.declared.tokens.TokenKind.TheVariants.{Name}
-use Rattle.fpc_base.specs.Tokens.{is_one_of, HasForm}
+use Rattle.fpc_base.specs.Tokens.{is_one_of}
 use Rattle.fpc_base.specs.Lexeme.{Lexeme}
 use Rattle.fpc_terms.specs.Term.{Term, Args, eigen, bound, variable, app, no_args, arg, Each, EachArg, Never}
-use Rattle.fpc_terms.specs.Text.{name_in}
 use Rattle.fpc_terms.specs.Name.{AreDifferent, HasName, Agrees, Grows, index_in, with_text}
 use Rattle.fpc_terms.specs.Written.{WrittenTerm, WrittenArgs, variable_word, application, no_words, words, term_tokens, args_tokens, more_tokens, term_meant, args_meant, variables_in}
 use Rattle.fpc_terms.specs.ReadTerm.{numbered}
-use Rattle.fpc_terms.proofs.Places.{got_push, got_before, got_last, is_one_of-got, got-index_in, index_in-push, is_one_of-absent, index_in-different, Grows-with_text, got-with_text}
+use Rattle.fpc_terms.proofs.Places.{got_before, got_last, is_one_of-got, got-index_in, index_in-push, is_one_of-absent, index_in-different, Grows-with_text, got-with_text}
 use Rattle.polarised_formulas.specs.WrittenOf.{IsNamed, AreNamed}
-use Rattle.polarised_formulas.proofs.Meant.{name_in-stands}
+use Rattle.polarised_formulas.proofs.Meant.{number-of}
+use Rattle.clause_language.proofs.Parameters.{AreDifferent-none, AreDifferent-push}
 use Rattle.round_trips.specs.Spelled.{variable_text, spelled_term, spelled_args}
 use Rattle.round_trips.specs.Printable.{Below}
 use Rattle.round_trips.specs.Order.{variables_to, variables_to_all, IsOrdered, AreOrdered}
@@ -45,31 +44,12 @@ mutual
   variables_in-more (words t ts) rest vs = variables_in-term t (more_tokens ts rest) vs ∙ variables_in-more ts rest (texts_to t vs)
 
 -- texts stay different
-pub AreDifferent-push : (texts : List (List ℕ)) (x : List ℕ) → is_one_of texts x ≡ false → AreDifferent texts → AreDifferent (texts ++ x ∷ [])
-AreDifferent-push texts x new h i j text hi hj =
-    elim (got_push texts x text i hi) [
-      | inl a ↦ elim (got_push texts x text j hj) [
-        | inl b ↦ h i j text a b
-        | inr b ↦ absurd (known i text a b.1)
-      ]
-      | inr a ↦ elim (got_push texts x text j hj) [
-        | inl b ↦ absurd (known j text b a.1)
-        | inr b ↦ omega (arith, a.0, b.0)
-      ]
-    ]
-  where
-    known : (k : ℕ) (text : List ℕ) → slice_get texts k ≡ Some text → text ≡ x → ⊥
-    known k text g e = let has : is_one_of texts x ≡ true = is_one_of-got texts k x (g ∙ ap Some e) in cc
-
 pub AreDifferent-with_text : (texts : List (List ℕ)) (x : List ℕ) → AreDifferent texts → AreDifferent (with_text texts x)
 AreDifferent-with_text texts x h =
     elim (cases_Bool (is_one_of texts x)) [
       | inl e ↦ rw e h
-      | inr e ↦ rw e (AreDifferent-push texts x e h)
+      | inr e ↦ rw e (AreDifferent-push texts x h e)
     ]
-
-pub AreDifferent-none : AreDifferent []
-AreDifferent-none i j text hi hj = cc
 
 mutual
   pub AreDifferent-texts_to : (t : WrittenTerm) (vs : List (List ℕ)) → AreDifferent vs → AreDifferent (texts_to t vs)
@@ -271,16 +251,13 @@ module _ (names : List (List ℕ)) where
 
   -- and are numbered back
   module _ (number : List ℕ → ℕ) (agrees : Agrees number names) where
-    pub number-of : (k : ℕ) → HasForm Name (name_in names k) → number (name_in names k) ≡ k
-    number-of k h = agrees k (name_in names k) (name_in-stands names k h)
-
     mutual
       pub term_meant-spelled : (m : ℕ) (t : Term) → m ≤ 2 ^ 64 → Each Never Never (Below m) t → IsNamed names t
           → term_meant number (numbered (index_in (numbered_texts m))) (spelled_term names t) ≡ t
       term_meant-spelled m (eigen k) le b named = absurd b
       term_meant-spelled m (bound k) le b named = absurd b
       term_meant-spelled m (variable v) le b named = ap variable (index_in-numbered m v le b)
-      term_meant-spelled m (app f ts) le b named = rw (number-of f named.0, args_meant-spelled m ts le b named.1) refl
+      term_meant-spelled m (app f ts) le b named = rw (number-of names number agrees f named.0, args_meant-spelled m ts le b named.1) refl
 
       pub args_meant-spelled : (m : ℕ) (ts : Args) → m ≤ 2 ^ 64 → EachArg Never Never (Below m) ts → AreNamed names ts
           → args_meant number (numbered (index_in (numbered_texts m))) (spelled_args names ts) ≡ ts

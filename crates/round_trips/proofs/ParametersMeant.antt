@@ -4,10 +4,8 @@ use Rattle.std.specs.List.{slice_get}
 use Rattle.std.specs.Fmt.{decimal}
 use Rattle.std.proofs.lemmas.Fmt.{decimal_injective}
 use Rattle.std.proofs.lemmas.Option.{slice_get_within}
-use Rattle.fpc_base.specs.declared.tokens.TokenKind.TheVariants.{Name}
-use Rattle.fpc_base.specs.Tokens.{is_one_of, HasForm}
+use Rattle.fpc_base.specs.Tokens.{is_one_of}
 use Rattle.fpc_terms.specs.Term.{Term, Args, eigen, bound, variable, app, no_args, arg, Each, EachArg, Never}
-use Rattle.fpc_terms.specs.Text.{name_in}
 use Rattle.fpc_terms.specs.Name.{Agrees, HasName, AreDifferent, index_in}
 use Rattle.fpc_terms.specs.Written.{IsKnown, AreKnown, term_meant, args_meant}
 use Rattle.fpc_terms.proofs.Places.{is_one_of-got, index_in-different}
@@ -16,7 +14,7 @@ use Rattle.polarised_formulas.specs.Written.{is_known, IsBound, variable_meant, 
 use Rattle.polarised_formulas.specs.WrittenOf.{bound_text, bound_scope, written_term, written_args, written_of, IsNamed, AreNamed, HasNames}
 use Rattle.polarised_formulas.specs.EachName.{EachName, EachNameOf, EachNameIn}
 use Rattle.polarised_formulas.specs.Size.{depth_of}
-use Rattle.polarised_formulas.proofs.Meant.{bound_scope-has, name_in-stands}
+use Rattle.polarised_formulas.proofs.Meant.{bound_scope-has, name_in-stands, number-of}
 use Rattle.clause_language.specs.Text.{parameter_text}
 use Rattle.round_trips.specs.Spelled.{parameters_from}
 use Rattle.round_trips.specs.Printable.{Below}
@@ -122,16 +120,13 @@ module _ (names : List (List ℕ)) (n : ℕ) where
   in_table-written_of d (exists a) h named = in_table-written_of (suc d) a h named
 
   module _ (number : List ℕ → ℕ) (agrees : Agrees number names) (small : n ≤ 2 ^ 64) where
-    number-of : (k : ℕ) → HasForm Name (name_in names k) → number (name_in names k) ≡ k
-    number-of k h = agrees k (name_in names k) (name_in-stands names k h)
-
     mutual
       meant-term : (d : ℕ) (t : Term) → d ≤ 2 ^ 64 → Scoped d t → IsNamed names t
           → term_meant number (variable_meant (parameters_from 0 n) (bound_scope d)) (written_term names d t) ≡ t
       meant-term d (eigen k) le h named = absurd h
       meant-term d (bound k) le h named = let s = bound_scope-has d k le h in rw (s.0, s.1) refl
       meant-term d (variable v) le h named = parameter-meant n d v small h
-      meant-term d (app f ts) le h named = rw (number-of f named.0, meant-args d ts le h named.1) refl
+      meant-term d (app f ts) le h named = rw (number-of names number agrees f named.0, meant-args d ts le h named.1) refl
 
       meant-args : (d : ℕ) (ts : Args) → d ≤ 2 ^ 64 → AllScoped d ts → AreNamed names ts
           → args_meant number (variable_meant (parameters_from 0 n) (bound_scope d)) (written_args names d ts) ≡ ts
@@ -142,7 +137,7 @@ module _ (names : List (List ℕ)) (n : ℕ) where
         → formula_meant number (parameters_from 0 n) (bound_scope d) (written_of names d f) ≡ f
     meant-within d (truth p) le h named = refl
     meant-within d (falsity p) le h named = refl
-    meant-within d (atom positive f ts) le h named = rw (number-of f named.0, meant-args d ts (omega (arith, le)) h named.1) refl
+    meant-within d (atom positive f ts) le h named = rw (number-of names number agrees f named.0, meant-args d ts (omega (arith, le)) h named.1) refl
     meant-within d (conj p a b) le h named = rw (meant-within d a (omega (arith, le)) h.0 named.0, meant-within d b (omega (arith, le)) h.1 named.1) refl
     meant-within d (disj p a b) le h named = rw (meant-within d a (omega (arith, le)) h.0 named.0, meant-within d b (omega (arith, le)) h.1 named.1) refl
     meant-within d (implies a b) le h named = rw (meant-within d a (omega (arith, le)) h.0 named.0, meant-within d b (omega (arith, le)) h.1 named.1) refl
