@@ -35,11 +35,13 @@ terms_in-args_of [] = refl
 terms_in-args_of (t ∷ ts) = ap (λ l. t ∷ l) (terms_in-args_of ts)
 
 -- the variables of a clause are those of its atoms
-variables_in-more_atoms : (more : List WrittenAtom) (rest : List Lexeme) (vs : List (List ℕ)) → variables_in (more_atom_tokens more rest) vs ≡ variables_in rest (texts_to_all (atoms_as_words more) vs)
+variables_in-more_atoms : (more : List WrittenAtom) (rest : List Lexeme) (vs : List (List ℕ))
+    → variables_in (more_atom_tokens more rest) vs ≡ variables_in rest (texts_to_all (atoms_as_words more) vs)
 variables_in-more_atoms [] rest vs = refl
 variables_in-more_atoms (a ∷ more) rest vs = variables_in-args a.args (more_atom_tokens more rest) vs ∙ variables_in-more_atoms more rest (texts_to_all a.args vs)
 
-variables_in-body : (body : List WrittenAtom) (rest : List Lexeme) (vs : List (List ℕ)) → variables_in (body_tokens body rest) vs ≡ variables_in rest (texts_to_all (atoms_as_words body) vs)
+variables_in-body : (body : List WrittenAtom) (rest : List Lexeme) (vs : List (List ℕ))
+    → variables_in (body_tokens body rest) vs ≡ variables_in rest (texts_to_all (atoms_as_words body) vs)
 variables_in-body [] rest vs = refl
 variables_in-body (a ∷ more) rest vs = variables_in-args a.args (more_atom_tokens more rest) vs ∙ variables_in-more_atoms more rest (texts_to_all a.args vs)
 

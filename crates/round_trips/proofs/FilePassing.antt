@@ -106,7 +106,8 @@ read-passes kind expected earlier (c ∷ cs) (says d at ∷ items) s t said h =
 read-passes kind expected earlier _ _ s t said h = absurd said
 
 -- what was read behind other tokens: tokens that its items say, that are whole with the others, and that pass
-pub record IsPassed {W : Type 0} (kind : FileKind) (expected : Option Logic) (earlier : List (List ℕ)) (IsWhole : List Lexeme → W → Type 0) (before : List Lexeme) (items : List Item) (w : W) : Type 0 where
+pub record IsPassed {W : Type 0} (kind : FileKind) (expected : Option Logic) (earlier : List (List ℕ)) (IsWhole : List Lexeme → W → Type 0)
+    (before : List Lexeme) (items : List Item) (w : W) : Type 0 where
   pub tokens : List Lexeme
   pub state : FileState
   pub said : Says tokens items
