@@ -10,6 +10,7 @@ use Rattle.fpc_terms.specs.ReadTerm.{any_variable}
 use Rattle.fpc_terms.proofs.TermLaws.{IsBehind}
 use Rattle.polarised_formulas.specs.declared.logic.Logic.{Logic}
 use Rattle.polarised_formulas.proofs.Small.{IsSmall, AreSmall}
+use Rattle.polarised_formulas.proofs.ProblemLaws.{term-dot}
 use Rattle.clause_language.specs.declared.file.FileKind.{FileKind}
 use Rattle.clause_language.specs.declared.file.FileKind.TheVariants.{Definition, Certificate}
 use Rattle.clause_language.specs.Written.{WrittenAtom, WrittenClause, WrittenItem, a_clause, more_atom_tokens, body_tokens, clause_tokens}
@@ -19,7 +20,6 @@ use Rattle.clause_language.specs.FileMachine.{FileState, within, at_item, in_cla
 use Rattle.round_trips.proofs.VariableOrder.{texts_to_all}
 use Rattle.round_trips.proofs.TermPassing.{IsAtMost-less, texts_to_all-longer, Embeds, pass-term, pass-named, passed-term, passed-named}
 use Rattle.round_trips.proofs.Sizes.{atoms_as_words, written_atoms, texts_of_clause}
-use Rattle.polarised_formulas.proofs.ProblemLaws.{term-dot}
 
 -- the machine passes the tokens within the limits, from one state to another
 abbrev pub Passes : FileKind → Option Logic → List (List ℕ) → FileState → List Lexeme → FileState → Type 0

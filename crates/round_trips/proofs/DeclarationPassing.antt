@@ -16,6 +16,7 @@ use Rattle.polarised_formulas.proofs.FormulaLaws.{whole-live}
 use Rattle.polarised_formulas.proofs.ProblemLaws.{formula-append, step-dot}
 use Rattle.polarised_formulas.proofs.Small.{written_depth, HasSmall}
 use Rattle.polarised_formulas.proofs.Fits.{Fits, fits-formula, less-than}
+use Rattle.polarised_formulas.proofs.Passed.{passed-formula}
 use Rattle.clause_language.specs.declared.file.FileKind.{FileKind}
 use Rattle.clause_language.specs.declared.file.FileKind.TheVariants.{Definition, Certificate}
 use Rattle.clause_language.specs.Written.{WrittenItem, declaration, more_parameter_tokens, parameter_tokens, item_tokens, IsItemOf}
@@ -28,7 +29,6 @@ use Rattle.clause_language.proofs.DeclarationLaws.{read_on-live}
 use Rattle.round_trips.proofs.TermPassing.{not-equal}
 use Rattle.round_trips.proofs.ClausePassing.{Passes}
 use Rattle.round_trips.proofs.Sizes.{IsItemSmall}
-use Rattle.polarised_formulas.proofs.Passed.{passed-formula}
 
 module _ (logic : Logic) (parameters : List (List ℕ)) where
   formula-within : (t : formula.FormulaState) → formula_states.IsLive t → formula.within false false t ≡ Ok t

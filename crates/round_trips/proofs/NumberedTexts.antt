@@ -8,9 +8,9 @@ use Rattle.fpc_base.specs.declared.tokens.TokenKind.TheVariants.{Variable}
 use Rattle.fpc_base.specs.Lexeme.{Lexeme, a_variable}
 use Rattle.fpc_base.specs.Tokens.{is_word_byte}
 use Rattle.polarised_formulas.proofs.Pieces.{Scans, stops, scans-piece}
+use Rattle.polarised_formulas.proofs.Pieces.{prefix-stops, digits-pass}
 use Rattle.clause_language.specs.Text.{parameter_text}
 use Rattle.round_trips.specs.Spelled.{variable_text}
-use Rattle.polarised_formulas.proofs.Pieces.{prefix-stops, digits-pass}
 
 -- how far the digits go
 digits-length : (j : ℕ) (rest : List ℕ) → j < 2 ^ 64 → stops rest ≡ true → 1 + prefix_len is_word_byte (decimal j ++ rest) ≡ suc (length (decimal j))

@@ -22,14 +22,14 @@ use Rattle.clause_language.specs.Meant.{term_variables, declared_meant, clauses_
 use Rattle.clause_language.specs.Limits.{declared_names, DefinitionLimits, CertificateLimits}
 use Rattle.clause_language.specs.Text.{definition_text, certificate_text}
 use Rattle.clause_language.specs.FileMachine.{FileState, start, at_item, finished, is_other, step}
-use Rattle.clause_language.proofs.FileLaws.{file_behind}
-use Rattle.clause_language.proofs.FileLimits.{definition_taken-told, certificate_taken-told}
-use Rattle.clause_language.proofs.FileReading.{definition-reads, certificate-reads}
 use Rattle.round_trips.specs.Spelled.{spelled_term, spelled_items, spelled_definition, spelled_certificate}
 use Rattle.round_trips.specs.Order.{variables_to, IsOrdered}
 use Rattle.round_trips.specs.EachName.{EachNameOfItems}
 use Rattle.round_trips.specs.Printable.{Below, AreNew, declared_texts, AreItemsPrintable, IsDefinitionPrintable, IsCertificatePrintable}
 use Rattle.round_trips.specs.RoundTrip.{DefinitionTextIsRead, ReadDefinitionIsPrintable, DefinitionIsReadBack, CertificateTextIsRead, ReadCertificateIsPrintable, CertificateIsReadBack}
+use Rattle.clause_language.proofs.FileLaws.{file_behind}
+use Rattle.clause_language.proofs.FileLimits.{definition_taken-told, certificate_taken-told}
+use Rattle.clause_language.proofs.FileReading.{definition-reads, certificate-reads}
 use Rattle.round_trips.proofs.VariableOrder.{texts_to, variables_in-term, ordered-whole_term, numbered_texts, length-numbered_texts, below-term, texts_to-spelled, term_meant-spelled}
 use Rattle.round_trips.proofs.Sizes.{AreItemsSmall}
 use Rattle.round_trips.proofs.ClausePassing.{Passes}
