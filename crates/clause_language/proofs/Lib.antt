@@ -14,3 +14,5 @@ pub mod DeclarationReading
 pub mod FileHolding
 pub mod FileTaking
 pub mod FileTokens
+pub mod FileNames
+pub mod ReadFacts

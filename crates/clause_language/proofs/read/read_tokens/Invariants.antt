@@ -1,0 +1,17 @@
+use Rattle.std.proofs.Common.{ℕ, List, length}
+use Rattle.fpc_base.specs.Lexeme.{items_left, items_of}
+use Rattle.fpc_terms.specs.Name.{Grows}
+use Rattle.fpc_terms.specs.Adding.{AddsTaken}
+use Rattle.clause_language.specs.HoldingFile.{AreTaken}
+use Rattle.clause_language.proofs.ReadFacts.{IsOn}
+use Rattle.clause_language.proofs.read.read_tokens.Given as goal
+
+abbrev pub invariant-reading : goal.invariant-reading
+invariant-reading l = record {
+  on : (earlier : List (List ℕ)) → AreTaken earlier l.fn.taken → IsOn l.fn.kind l.fn.expected earlier (items_of l.fn.bytes) (items_left l.tokens) l.names l.reader;
+  names : Grows l.initial.names l.names;
+  adds : AddsTaken (items_of l.fn.bytes) (items_left l.tokens) l.initial.names l.names;
+}
+
+abbrev pub decreases-reading : goal.decreases-reading
+decreases-reading l = length (items_left l.tokens)
