@@ -137,7 +137,7 @@ module _ (names : List (List ℕ)) where
   }
 
 module _ (names : List (List ℕ)) (number : List ℕ → ℕ) (agrees : Agrees number names) where
-  number-of : (k : ℕ) → HasForm Name (name_in names k) → number (name_in names k) ≡ k
+  pub number-of : (k : ℕ) → HasForm Name (name_in names k) → number (name_in names k) ≡ k
   number-of k h = agrees k (name_in names k) (name_in-stands names k h)
 
   mutual

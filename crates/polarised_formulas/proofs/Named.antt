@@ -17,7 +17,7 @@ use Rattle.polarised_formulas.specs.EachName.{EachName, EachNameOf, EachNameIn}
 use Rattle.polarised_formulas.specs.Spoken.{Says}
 
 -- each token has its form
-abbrev AreFormed : List Scanned → Type 0
+abbrev pub AreFormed : List Scanned → Type 0
 AreFormed [] = Unit {0}
 AreFormed (token kind text at ∷ ts) = HasForm kind text × AreFormed ts
 AreFormed (refused r ∷ ts) = AreFormed ts
@@ -27,7 +27,7 @@ formed-front (Gap n) bytes at rest l h = h
 formed-front (Piece kind n) bytes at rest l h = ((l.0, l.1), h)
 formed-front (Fault code) bytes at rest l h = tt
 
-AreFormed-behind : (bytes : List ℕ) (skipped at : ℕ) → AreFormed (tokens_behind skipped at bytes)
+pub AreFormed-behind : (bytes : List ℕ) (skipped at : ℕ) → AreFormed (tokens_behind skipped at bytes)
 AreFormed-behind [] skipped at = tt
 AreFormed-behind (b ∷ bs) (suc n) at = AreFormed-behind bs n (suc at)
 AreFormed-behind (b ∷ bs) zero at =
@@ -35,7 +35,7 @@ AreFormed-behind (b ∷ bs) zero at =
     (AreFormed-behind bs (size_of (front_of b bs) - 1) (suc at))
 
 -- the names among the tokens are name tokens
-abbrev AreNames : List Lexeme → Type 0
+abbrev pub AreNames : List Lexeme → Type 0
 AreNames [] = Unit {0}
 AreNames (a_name x ∷ cs) = HasForm Name x × AreNames cs
 AreNames (_ ∷ cs) = AreNames cs
@@ -55,7 +55,7 @@ one-named : (c : Lexeme) (cs : List Lexeme) (kind : TokenKind) (text : List ℕ)
 one-named (a_name x) cs kind text e f h = (named-token x kind text e f, h)
 one-named _ cs kind text e f h = h
 
-AreNames-said : (cs : List Lexeme) (ts : List Scanned) → AreFormed ts → Says cs (map item_of ts) → AreNames cs
+pub AreNames-said : (cs : List Lexeme) (ts : List Scanned) → AreFormed ts → Says cs (map item_of ts) → AreNames cs
 AreNames-said [] ts f h = tt
 AreNames-said (c ∷ cs) (token kind text at ∷ ts) f h = one-named c cs kind text h.0 f.0 (AreNames-said cs ts f.1 h.1)
 AreNames-said (c ∷ cs) (refused r ∷ ts) f h = absurd h
@@ -63,11 +63,11 @@ AreNames-said (c ∷ cs) [] f h = absurd h
 
 -- the names of a formula are among its tokens
 mutual
-  named-term : (t : WrittenTerm) (rest : List Lexeme) → AreNames (term_tokens t rest) → EachName (HasForm Name) t × AreNames rest
+  pub named-term : (t : WrittenTerm) (rest : List Lexeme) → AreNames (term_tokens t rest) → EachName (HasForm Name) t × AreNames rest
   named-term (variable_word x) rest h = (tt, h)
   named-term (application x ts) rest h = let s = named-args ts rest h.1 in ((h.0, s.0), s.1)
 
-  named-args : (ts : WrittenArgs) (rest : List Lexeme) → AreNames (args_tokens ts rest) → EachNameOf (HasForm Name) ts × AreNames rest
+  pub named-args : (ts : WrittenArgs) (rest : List Lexeme) → AreNames (args_tokens ts rest) → EachNameOf (HasForm Name) ts × AreNames rest
   named-args no_words rest h = (tt, h)
   named-args (words t ts) rest h =
       let first = named-term t (more_tokens ts rest) h in let later = named-more ts rest first.1 in ((first.0, later.0), later.1)
@@ -83,7 +83,7 @@ named-mark Lkf false rest h = h
 named-mark Ljf true rest h = h
 named-mark Ljf false rest h = h
 
-named-formula : (logic : Logic) (w : WrittenFormula) (rest : List Lexeme) → AreNames (formula_tokens logic w rest) → EachNameIn (HasForm Name) w × AreNames rest
+pub named-formula : (logic : Logic) (w : WrittenFormula) (rest : List Lexeme) → AreNames (formula_tokens logic w rest) → EachNameIn (HasForm Name) w × AreNames rest
 named-formula logic (true_unit p) rest h = (tt, h)
 named-formula logic (false_unit p) rest h = (tt, h)
 named-formula logic (literal positive x args) rest h =

@@ -109,10 +109,10 @@ passed-false Ljf parameters Positive p rest l h = (h.0, h.2)
 passed-false Ljf parameters Negative p rest l h = absurd l
 
 -- what the limits let pass
-record IsWithin (logic : Logic) (parameters : List (List ℕ)) (w : WrittenFormula) (p : Place) (rest : List Lexeme) : Type 0 where
-  deep : nesting p + written_depth w ≤ 10001
-  small : HasSmall w
-  fits : Fits logic parameters (has w p) rest
+pub record IsWithin (logic : Logic) (parameters : List (List ℕ)) (w : WrittenFormula) (p : Place) (rest : List Lexeme) : Type 0 where
+  pub deep : nesting p + written_depth w ≤ 10001
+  pub small : HasSmall w
+  pub fits : Fits logic parameters (has w p) rest
 
 module _ (logic : Logic) (parameters : List (List ℕ)) where
   passed-join : (j : Joiner) (a : WrittenFormula) (p : Place) (rest : List Lexeme) → IsJoinerOf logic j
@@ -134,7 +134,7 @@ module _ (logic : Logic) (parameters : List (List ℕ)) where
   not-deeper p h le = less-than (nesting p) 10001 h le
 
   -- what passes is within the limits
-  passed-formula : (w : WrittenFormula) (p : Place) (rest : List Lexeme) → IsBound parameters (scope_at p) w → IsWrittenIn logic w → IsBehind rest
+  pub passed-formula : (w : WrittenFormula) (p : Place) (rest : List Lexeme) → IsBound parameters (scope_at p) w → IsWrittenIn logic w → IsBehind rest
       → nesting p ≤ 10001 → Fits logic parameters (wants p) (formula_tokens logic w rest) → IsWithin logic parameters w p rest
   passed-formula (true_unit k) p rest known l b le h =
       let s = passed-true logic parameters k p rest h in

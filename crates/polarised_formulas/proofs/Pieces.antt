@@ -108,7 +108,7 @@ small-bounds : (b : ℕ) → is_small b ≡ true → (97 ≤ b) × (b ≤ 122)
 small-bounds b h = grind (arith, nat_tests)
 
 -- how far a word goes
-prefix-stops : (xs rest : List ℕ) → list_all is_word_byte xs ≡ true → stops rest ≡ true → prefix_len is_word_byte (xs ++ rest) ≡ length xs
+pub prefix-stops : (xs rest : List ℕ) → list_all is_word_byte xs ≡ true → stops rest ≡ true → prefix_len is_word_byte (xs ++ rest) ≡ length xs
 prefix-stops [] [] h s = refl
 prefix-stops [] (b ∷ rest) h s = by_test (is_word_byte b) refl where
   by_test : (v : Bool) → is_word_byte b ≡ v → cond v (1 + prefix_len is_word_byte rest) 0 ≡ 0
@@ -165,7 +165,7 @@ scans-name (b ∷ bs) rest cs f s h =
     scans-piece Name b bs rest cs front h
 
 -- a variable by its number
-digits-pass : (n : ℕ) → n < 2 ^ 64 → list_all is_word_byte (decimal n) ≡ true
+pub digits-pass : (n : ℕ) → n < 2 ^ 64 → list_all is_word_byte (decimal n) ≡ true
 digits-pass n lt = decimal_by_steps (λ m ds. list_all is_word_byte ds ≡ true) one more n lt where
   digit : (k : ℕ) → k < 10 → is_digit (48 + k) ≡ true
   digit k lt = grind (arith, nat_tests)

@@ -1,0 +1,15 @@
+pub mod VariableOrder
+pub mod TermPassing
+pub mod Sizes
+pub mod ClausePassing
+pub mod DeclarationPassing
+pub mod FilePassing
+pub mod ParametersMeant
+pub mod MeantFacts
+pub mod ClauseMeant
+pub mod NumberedTexts
+pub mod FormulaScan
+pub mod FileScan
+pub mod NamesSaid
+pub mod ItemsMeant
+pub mod RoundTrip

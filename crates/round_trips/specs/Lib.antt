@@ -1,0 +1,5 @@
+pub mod Spelled
+pub mod Order
+pub mod EachName
+pub mod Printable
+pub mod RoundTrip

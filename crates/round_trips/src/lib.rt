@@ -1,0 +1,2 @@
+//! Laws that are developed here and move to `clause_language`.
+#![tactic(auto)]
