@@ -10,3 +10,8 @@ pub mod HoldingClause
 pub mod HoldingDeclaration
 pub mod HoldingFile
 pub mod ReadFile
+pub mod Spelled
+pub mod Order
+pub mod EachName
+pub mod Printable
+pub mod RoundTrip

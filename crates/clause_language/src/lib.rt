@@ -12,6 +12,7 @@ pub mod declaration_list;
 pub mod declaration_reader;
 pub mod definition;
 pub mod file;
+pub mod laws;
 pub mod print;
 pub mod read;
 

@@ -18,11 +18,11 @@ use Rattle.clause_language.specs.Written.{WrittenItem, declaration, a_clause, it
 use Rattle.clause_language.specs.Limits.{declared_names}
 use Rattle.clause_language.specs.FileMachine.{FileState, start, at_item, finished, is_other, step, limited}
 use Rattle.clause_language.specs.ReadFile.{answered, read_items}
-use Rattle.round_trips.specs.Printable.{AreNew}
+use Rattle.clause_language.specs.Printable.{AreNew}
 use Rattle.clause_language.proofs.FileLaws.{declared_names-append, file_behind, file_behind-step}
-use Rattle.round_trips.proofs.Sizes.{AreItemsSmall}
-use Rattle.round_trips.proofs.ClausePassing.{Passes, pass-clause, passed-clause, pass-last_term, passed-last_term}
-use Rattle.round_trips.proofs.DeclarationPassing.{pass-declaration, passed-declaration}
+use Rattle.clause_language.proofs.Sizes.{AreItemsSmall}
+use Rattle.clause_language.proofs.ClausePassing.{Passes, pass-clause, passed-clause, pass-last_term, passed-last_term}
+use Rattle.clause_language.proofs.DeclarationPassing.{pass-declaration, passed-declaration}
 
 -- the names of earlier and declared formulas, and of one item more
 names-behind : (earlier : List (List ℕ)) (done : List WrittenItem) (i : WrittenItem)

@@ -16,8 +16,8 @@ use Rattle.polarised_formulas.specs.EachName.{EachName, EachNameOf, EachNameIn}
 use Rattle.polarised_formulas.specs.Size.{depth_of}
 use Rattle.polarised_formulas.proofs.Meant.{bound_scope-has, name_in-stands, number-of}
 use Rattle.clause_language.specs.Text.{parameter_text}
-use Rattle.round_trips.specs.Spelled.{parameters_from}
-use Rattle.round_trips.specs.Printable.{Below}
+use Rattle.clause_language.specs.Spelled.{parameters_from}
+use Rattle.clause_language.specs.Printable.{Below}
 
 pub length-parameters_from : (k n : ℕ) → length (parameters_from k n) ≡ n
 length-parameters_from k zero = refl

@@ -15,9 +15,9 @@ use Rattle.fpc_terms.specs.ReadTerm.{numbered}
 use Rattle.fpc_terms.proofs.Places.{got_before, got_last, is_one_of-got, got-index_in, index_in-push, is_one_of-absent, index_in-different, Grows-with_text, got-with_text}
 use Rattle.polarised_formulas.specs.WrittenOf.{IsNamed, AreNamed}
 use Rattle.polarised_formulas.proofs.Meant.{number-of}
-use Rattle.round_trips.specs.Spelled.{variable_text, spelled_term, spelled_args}
-use Rattle.round_trips.specs.Printable.{Below}
-use Rattle.round_trips.specs.Order.{variables_to, variables_to_all, IsOrdered, AreOrdered}
+use Rattle.clause_language.specs.Spelled.{variable_text, spelled_term, spelled_args}
+use Rattle.clause_language.specs.Printable.{Below}
+use Rattle.clause_language.specs.Order.{variables_to, variables_to_all, IsOrdered, AreOrdered}
 use Rattle.clause_language.proofs.Parameters.{AreDifferent-none, AreDifferent-push}
 
 -- the different variables up to the end of a written term, behind earlier ones

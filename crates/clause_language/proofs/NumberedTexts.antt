@@ -10,7 +10,7 @@ use Rattle.fpc_base.specs.Tokens.{is_word_byte}
 use Rattle.polarised_formulas.proofs.Pieces.{Scans, stops, scans-piece}
 use Rattle.polarised_formulas.proofs.Pieces.{prefix-stops, digits-pass}
 use Rattle.clause_language.specs.Text.{parameter_text}
-use Rattle.round_trips.specs.Spelled.{variable_text}
+use Rattle.clause_language.specs.Spelled.{variable_text}
 
 -- how far the digits go
 digits-length : (j : ℕ) (rest : List ℕ) → j < 2 ^ 64 → stops rest ≡ true → 1 + prefix_len is_word_byte (decimal j ++ rest) ≡ suc (length (decimal j))

@@ -14,7 +14,7 @@ use Rattle.fpc_terms.specs.Machine.{TermState, wants, named, has, step, args_wit
 use Rattle.fpc_terms.proofs.TermLaws.{IsBehind, more-behind}
 use Rattle.polarised_formulas.proofs.Small.{words_count, IsSmall, AreSmall}
 use Rattle.polarised_formulas.proofs.Fits.{less-than}
-use Rattle.round_trips.proofs.VariableOrder.{texts_to, texts_to_all}
+use Rattle.clause_language.proofs.VariableOrder.{texts_to, texts_to_all}
 
 pub not-equal : (a b : ℕ) → (a ≡ b → ⊥) → nat_eq a b ≡ false
 not-equal a b h = grind (arith, nat_tests)

@@ -21,12 +21,12 @@ use Rattle.clause_language.specs.declared.definition.Definition.{Definition}
 use Rattle.clause_language.specs.declared.certificate.Certificate.{Certificate}
 use Rattle.clause_language.specs.Written.{WrittenItem, more_atom_tokens, body_tokens, clause_tokens, more_parameter_tokens, parameter_tokens, item_tokens, items_tokens}
 use Rattle.clause_language.specs.Text.{more_atoms_before, body_before, clause_before, parameter_text, more_parameters_before, parameters_before, declaration_before, declared_before, clauses_before, file_before, definition_text, term_line, certificate_text}
-use Rattle.round_trips.specs.Spelled.{spelled_term, spelled_args, spelled_atom, spelled_clause, parameters_from, spelled_declaration, spelled_clauses, spelled_declared, spelled_items}
-use Rattle.round_trips.specs.Order.{term_of_atom, atoms_as_args, atoms_of}
-use Rattle.round_trips.specs.Printable.{Below, AreClausesPrintable, IsDeclarationPrintable, AreDeclaredPrintable}
-use Rattle.round_trips.proofs.VariableOrder.{below-args}
-use Rattle.round_trips.proofs.NumberedTexts.{scans-parameter, scans-numbered}
-use Rattle.round_trips.proofs.FormulaScan.{scans-formula}
+use Rattle.clause_language.specs.Spelled.{spelled_term, spelled_args, spelled_atom, spelled_clause, parameters_from, spelled_declaration, spelled_clauses, spelled_declared, spelled_items}
+use Rattle.clause_language.specs.Order.{term_of_atom, atoms_as_args, atoms_of}
+use Rattle.clause_language.specs.Printable.{Below, AreClausesPrintable, IsDeclarationPrintable, AreDeclaredPrintable}
+use Rattle.clause_language.proofs.VariableOrder.{below-args}
+use Rattle.clause_language.proofs.NumberedTexts.{scans-parameter, scans-numbered}
+use Rattle.clause_language.proofs.FormulaScan.{scans-formula}
 
 -- the end of a line behind a dot
 scans-line : (rest : List ℕ) (cs : List Lexeme) → Scans cs rest → Scans (a_sign sign.Dot ∷ cs) (codes ".\n" ++ rest)

@@ -22,23 +22,23 @@ use Rattle.clause_language.specs.Meant.{term_variables, declared_meant, clauses_
 use Rattle.clause_language.specs.Limits.{declared_names, DefinitionLimits, CertificateLimits}
 use Rattle.clause_language.specs.Text.{definition_text, certificate_text}
 use Rattle.clause_language.specs.FileMachine.{FileState, start, at_item, finished, is_other, step}
-use Rattle.round_trips.specs.Spelled.{spelled_term, spelled_items, spelled_definition, spelled_certificate}
-use Rattle.round_trips.specs.Order.{variables_to, IsOrdered}
-use Rattle.round_trips.specs.EachName.{EachNameOfItems}
-use Rattle.round_trips.specs.Printable.{Below, AreNew, declared_texts, AreItemsPrintable, IsDefinitionPrintable, IsCertificatePrintable}
-use Rattle.round_trips.specs.RoundTrip.{DefinitionTextIsRead, ReadDefinitionIsPrintable, DefinitionIsReadBack, CertificateTextIsRead, ReadCertificateIsPrintable, CertificateIsReadBack}
+use Rattle.clause_language.specs.Spelled.{spelled_term, spelled_items, spelled_definition, spelled_certificate}
+use Rattle.clause_language.specs.Order.{variables_to, IsOrdered}
+use Rattle.clause_language.specs.EachName.{EachNameOfItems}
+use Rattle.clause_language.specs.Printable.{Below, AreNew, declared_texts, AreItemsPrintable, IsDefinitionPrintable, IsCertificatePrintable}
+use Rattle.clause_language.specs.RoundTrip.{DefinitionTextIsRead, ReadDefinitionIsPrintable, DefinitionIsReadBack, CertificateTextIsRead, ReadCertificateIsPrintable, CertificateIsReadBack}
 use Rattle.clause_language.proofs.FileLaws.{file_behind}
 use Rattle.clause_language.proofs.FileLimits.{definition_taken-told, certificate_taken-told}
 use Rattle.clause_language.proofs.FileReading.{definition-reads, certificate-reads}
-use Rattle.round_trips.proofs.VariableOrder.{texts_to, variables_in-term, ordered-whole_term, numbered_texts, length-numbered_texts, below-term, texts_to-spelled, term_meant-spelled}
-use Rattle.round_trips.proofs.Sizes.{AreItemsSmall}
-use Rattle.round_trips.proofs.ClausePassing.{Passes}
-use Rattle.round_trips.proofs.FilePassing.{pass-items, passed-items, pass-word, passed-word, pass-certificate_term, passed-certificate_term, read-passes, IsPassed, passes-read}
-use Rattle.round_trips.proofs.MeantFacts.{named-term_meant, few-term_meant}
-use Rattle.round_trips.proofs.ClauseMeant.{small-spelled_term, in_table-spelled_term}
-use Rattle.round_trips.proofs.ItemsMeant.{printable-declared, printable-clauses, texts-declared, of_logic-spelled, small-spelled, known-spelled, names-spelled, declared_meant-spelled, clauses_meant-spelled}
-use Rattle.round_trips.proofs.FileScan.{Says-definition_text, Says-certificate_text}
-use Rattle.round_trips.proofs.NamesSaid.{EachNameOfItems-said, EachName-said_term}
+use Rattle.clause_language.proofs.VariableOrder.{texts_to, variables_in-term, ordered-whole_term, numbered_texts, length-numbered_texts, below-term, texts_to-spelled, term_meant-spelled}
+use Rattle.clause_language.proofs.Sizes.{AreItemsSmall}
+use Rattle.clause_language.proofs.ClausePassing.{Passes}
+use Rattle.clause_language.proofs.FilePassing.{pass-items, passed-items, pass-word, passed-word, pass-certificate_term, passed-certificate_term, read-passes, IsPassed, passes-read}
+use Rattle.clause_language.proofs.MeantFacts.{named-term_meant, few-term_meant}
+use Rattle.clause_language.proofs.ClauseMeant.{small-spelled_term, in_table-spelled_term}
+use Rattle.clause_language.proofs.ItemsMeant.{printable-declared, printable-clauses, texts-declared, of_logic-spelled, small-spelled, known-spelled, names-spelled, declared_meant-spelled, clauses_meant-spelled}
+use Rattle.clause_language.proofs.FileScan.{Says-definition_text, Says-certificate_text}
+use Rattle.clause_language.proofs.NamesSaid.{EachNameOfItems-said, EachName-said_term}
 
 -- what passed of the items of a file
 record AreWithin (expected : Option Logic) (earlier : List (List ℕ)) (logic : Logic) (items : List WrittenItem) : Type 0 where

@@ -3,7 +3,7 @@ use Rattle.std.proofs.Common.{ℕ, ◌≤◌, List, [], ◌∷◌, length}
 use Rattle.fpc_terms.specs.Written.{WrittenArgs, application, no_words, words}
 use Rattle.polarised_formulas.proofs.Small.{written_depth, AreSmall, HasSmall}
 use Rattle.clause_language.specs.Written.{WrittenAtom, WrittenClause, WrittenItem, declaration, a_clause}
-use Rattle.round_trips.proofs.VariableOrder.{texts_to_all}
+use Rattle.clause_language.proofs.VariableOrder.{texts_to_all}
 
 -- the atoms of a clause, one after another, as arguments
 abbrev pub atoms_as_words : List WrittenAtom → WrittenArgs

@@ -17,9 +17,9 @@ use Rattle.clause_language.specs.Written.{WrittenAtom, WrittenClause, WrittenIte
 use Rattle.clause_language.specs.Limits.{AtomPlace, at_head, in_body}
 use Rattle.clause_language.specs.ClauseMachine.{ClauseState, in_atom, whole_atom, clause_of, gone_on, gone_on_within}
 use Rattle.clause_language.specs.FileMachine.{FileState, within, at_item, in_clause, in_term, finished, claused, claused_within, read_on, read_within, begun, step, limited}
-use Rattle.round_trips.proofs.VariableOrder.{texts_to_all}
-use Rattle.round_trips.proofs.TermPassing.{IsAtMost-less, texts_to_all-longer, Embeds, pass-term, pass-named, passed-term, passed-named}
-use Rattle.round_trips.proofs.Sizes.{atoms_as_words, written_atoms, texts_of_clause}
+use Rattle.clause_language.proofs.VariableOrder.{texts_to_all}
+use Rattle.clause_language.proofs.TermPassing.{IsAtMost-less, texts_to_all-longer, Embeds, pass-term, pass-named, passed-term, passed-named}
+use Rattle.clause_language.proofs.Sizes.{atoms_as_words, written_atoms, texts_of_clause}
 
 -- the machine passes the tokens within the limits, from one state to another
 abbrev pub Passes : FileKind → Option Logic → List (List ℕ) → FileState → List Lexeme → FileState → Type 0

@@ -14,14 +14,14 @@ use Rattle.clause_language.specs.declared.declaration.DeclaredFormula.{DeclaredF
 use Rattle.clause_language.specs.Written.{WrittenItem, declaration, a_clause, IsItemOf, AreItemsOf}
 use Rattle.clause_language.specs.Meant.{declaration_meant, declared_meant, clauses_meant}
 use Rattle.clause_language.specs.Limits.{declared_names}
-use Rattle.round_trips.specs.Spelled.{parameters_from, spelled_clause, spelled_declaration, spelled_clauses, spelled_items}
-use Rattle.round_trips.specs.EachName.{EachNameOfItem, EachNameOfItems}
-use Rattle.round_trips.specs.Printable.{IsDeclarationPrintable, AreDeclaredPrintable, IsClausePrintable, AreClausesPrintable, declared_texts}
-use Rattle.round_trips.proofs.VariableOrder.{length-numbered_texts}
-use Rattle.round_trips.proofs.ParametersMeant.{length-parameters_from, AreDifferent-parameters_from, bound-written_of, in_table-written_of, meant-written_of}
-use Rattle.round_trips.proofs.MeantFacts.{name_in-number, formed-number, scoped-formula_meant, logic-formula_meant, named-formula_meant}
-use Rattle.round_trips.proofs.ClauseMeant.{printable-clause, small-spelled_clause, texts-spelled_clause, in_table-spelled_clause, clause_meant-spelled}
-use Rattle.round_trips.proofs.Sizes.{IsItemSmall, AreItemsSmall, texts_of_clause}
+use Rattle.clause_language.specs.Spelled.{parameters_from, spelled_clause, spelled_declaration, spelled_clauses, spelled_items}
+use Rattle.clause_language.specs.EachName.{EachNameOfItem, EachNameOfItems}
+use Rattle.clause_language.specs.Printable.{IsDeclarationPrintable, AreDeclaredPrintable, IsClausePrintable, AreClausesPrintable, declared_texts}
+use Rattle.clause_language.proofs.VariableOrder.{length-numbered_texts}
+use Rattle.clause_language.proofs.ParametersMeant.{length-parameters_from, AreDifferent-parameters_from, bound-written_of, in_table-written_of, meant-written_of}
+use Rattle.clause_language.proofs.MeantFacts.{name_in-number, formed-number, scoped-formula_meant, logic-formula_meant, named-formula_meant}
+use Rattle.clause_language.proofs.ClauseMeant.{printable-clause, small-spelled_clause, texts-spelled_clause, in_table-spelled_clause, clause_meant-spelled}
+use Rattle.clause_language.proofs.Sizes.{IsItemSmall, AreItemsSmall, texts_of_clause}
 
 -- READ
 module _ (names : List (List ℕ)) (number : List ℕ → ℕ) (agrees : Agrees number names) where

@@ -26,9 +26,9 @@ use Rattle.clause_language.specs.DeclarationMachine as declaring
 use Rattle.clause_language.specs.FileMachine.{FileState, at_item, in_declaration, declared, declared_within, begun, within}
 use Rattle.clause_language.proofs.Parameters.{absent-before}
 use Rattle.clause_language.proofs.DeclarationLaws.{read_on-live}
-use Rattle.round_trips.proofs.TermPassing.{not-equal}
-use Rattle.round_trips.proofs.ClausePassing.{Passes}
-use Rattle.round_trips.proofs.Sizes.{IsItemSmall}
+use Rattle.clause_language.proofs.TermPassing.{not-equal}
+use Rattle.clause_language.proofs.ClausePassing.{Passes}
+use Rattle.clause_language.proofs.Sizes.{IsItemSmall}
 
 module _ (logic : Logic) (parameters : List (List ℕ)) where
   formula-within : (t : formula.FormulaState) → formula_states.IsLive t → formula.within false false t ≡ Ok t

@@ -17,13 +17,13 @@ use Rattle.clause_language.specs.declared.clause.Clause.{Clause}
 use Rattle.clause_language.specs.Written.{WrittenAtom, WrittenClause, more_atom_tokens, body_tokens}
 use Rattle.clause_language.specs.Meant.{clause_variables, atom_meant, clause_meant}
 use Rattle.clause_language.specs.Text.{args_of}
-use Rattle.round_trips.specs.Spelled.{spelled_term, spelled_args, spelled_atom, spelled_clause}
-use Rattle.round_trips.specs.Order.{variables_to, variables_to_all, IsOrdered, AreOrdered, term_of_atom, atoms_as_args, atoms_of}
-use Rattle.round_trips.specs.EachName.{EachNameOfAtoms}
-use Rattle.round_trips.specs.Printable.{Below, IsClausePrintable}
-use Rattle.round_trips.proofs.VariableOrder.{texts_to_all, variables_in-args, ordered-whole_args, numbered_texts, length-numbered_texts, below-args, texts_to_all-spelled, args_meant-spelled}
-use Rattle.round_trips.proofs.MeantFacts.{named-args_meant, few-args_meant}
-use Rattle.round_trips.proofs.Sizes.{atoms_as_words, written_atoms, texts_of_clause}
+use Rattle.clause_language.specs.Spelled.{spelled_term, spelled_args, spelled_atom, spelled_clause}
+use Rattle.clause_language.specs.Order.{variables_to, variables_to_all, IsOrdered, AreOrdered, term_of_atom, atoms_as_args, atoms_of}
+use Rattle.clause_language.specs.EachName.{EachNameOfAtoms}
+use Rattle.clause_language.specs.Printable.{Below, IsClausePrintable}
+use Rattle.clause_language.proofs.VariableOrder.{texts_to_all, variables_in-args, ordered-whole_args, numbered_texts, length-numbered_texts, below-args, texts_to_all-spelled, args_meant-spelled}
+use Rattle.clause_language.proofs.MeantFacts.{named-args_meant, few-args_meant}
+use Rattle.clause_language.proofs.Sizes.{atoms_as_words, written_atoms, texts_of_clause}
 
 -- arguments as a list and back
 pub args_of-terms_in : (ts : Args) → args_of (terms_in ts) ≡ ts

@@ -13,7 +13,7 @@ use Rattle.clause_language.specs.declared.declaration.DeclaredFormula.{DeclaredF
 use Rattle.clause_language.specs.declared.definition.Definition.{Definition}
 use Rattle.clause_language.specs.declared.certificate.Certificate.{Certificate}
 use Rattle.clause_language.specs.FileMachine.{is_other}
-use Rattle.round_trips.specs.Order.{variables_to, variables_to_all, IsOrdered, AreOrdered, atoms_of}
+use Rattle.clause_language.specs.Order.{variables_to, variables_to_all, IsOrdered, AreOrdered, atoms_of}
 
 -- below a number
 abbrev pub Below : ℕ → ℕ → Type 0

@@ -21,7 +21,7 @@ use Rattle.polarised_formulas.specs.WrittenOf.{IsNamed, AreNamed, HasNames}
 use Rattle.polarised_formulas.specs.EachName.{EachName, EachNameOf, EachNameIn}
 use Rattle.polarised_formulas.specs.Size.{HasFew, AllHaveFew}
 use Rattle.polarised_formulas.proofs.Small.{words_count, IsSmall, AreSmall}
-use Rattle.round_trips.specs.Printable.{Below}
+use Rattle.clause_language.specs.Printable.{Below}
 
 -- a text stands below the list's length, where it stands there
 index_in-below : (xs : List (List ℕ)) (x : List ℕ) → is_one_of xs x ≡ true → index_in xs x < length xs

@@ -11,8 +11,8 @@ use Rattle.clause_language.specs.Written.{WrittenDefinition, WrittenCertificate,
 use Rattle.clause_language.specs.Meant.{definition_meant, certificate_meant}
 use Rattle.clause_language.specs.Text.{definition_text, certificate_text}
 use Rattle.clause_language.specs.Limits.{DefinitionLimits, CertificateLimits}
-use Rattle.round_trips.specs.EachName.{EachNameOfItems}
-use Rattle.round_trips.specs.Printable.{IsDefinitionPrintable, IsCertificatePrintable}
+use Rattle.clause_language.specs.EachName.{EachNameOfItems}
+use Rattle.clause_language.specs.Printable.{IsDefinitionPrintable, IsCertificatePrintable}
 
 -- the items are read as a definition, where a logic may be expected; its names are in the table, and with their numbers it means this one
 pub record ReadsDefinitionAs (expected : Option Logic) (names : List (List ℕ)) (number : List ℕ → ℕ) (items : List Item) (d : Definition) : Type 0 where

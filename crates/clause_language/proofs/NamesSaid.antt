@@ -12,7 +12,7 @@ use Rattle.polarised_formulas.specs.EachName.{EachName}
 use Rattle.polarised_formulas.specs.Spoken.{Says}
 use Rattle.polarised_formulas.proofs.Named.{AreFormed-behind, AreNames, AreNames-said, named-term, named-args, named-formula}
 use Rattle.clause_language.specs.Written.{WrittenAtom, WrittenItem, declaration, a_clause, more_atom_tokens, body_tokens, more_parameter_tokens, parameter_tokens, item_tokens, items_tokens}
-use Rattle.round_trips.specs.EachName.{EachNameOfAtoms, EachNameOfItem, EachNameOfItems}
+use Rattle.clause_language.specs.EachName.{EachNameOfAtoms, EachNameOfItem, EachNameOfItems}
 
 -- the names of items are among their tokens
 named-more_atoms : (more : List WrittenAtom) (rest : List Lexeme) → AreNames (more_atom_tokens more rest) → EachNameOfAtoms (HasForm Name) more × AreNames rest

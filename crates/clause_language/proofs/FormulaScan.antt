@@ -17,8 +17,8 @@ use Rattle.polarised_formulas.specs.Written.{formula_tokens, joiner_sign, true_s
 use Rattle.polarised_formulas.specs.WrittenOf.{bound_text, written_term, written_args, written_of, IsNamed, AreNamed, HasNames}
 use Rattle.polarised_formulas.specs.Size.{depth_of}
 use Rattle.polarised_formulas.proofs.Pieces.{Scans, stops, scans-name, scans-variable, scans-open, scans-close, scans-comma, scans-tilde, scans-plus, scans-minus, scans-colon, scans-all, scans-some, scans-true_plus, scans-true_minus, scans-false_plus, scans-false_minus, scans-false, scans-and_plus, scans-and_minus, scans-bar_plus, scans-bar_minus, scans-bar, scans-arrow}
-use Rattle.round_trips.specs.Printable.{Below}
-use Rattle.round_trips.proofs.NumberedTexts.{scans-parameter}
+use Rattle.clause_language.specs.Printable.{Below}
+use Rattle.clause_language.proofs.NumberedTexts.{scans-parameter}
 
 module _ (names : List (List ℕ)) (n : ℕ) (small : n ≤ 2 ^ 64) where
   more-stop : (leaves : Leaves) (ts : Args) (rest : List ℕ) → stops (more_before leaves ts rest) ≡ true

@@ -1,0 +1,20 @@
+use Rattle.clause_language.proofs.RoundTrip.{definition-text_read, definition-printable, definition-read_back, certificate-text_read, certificate-printable, certificate-read_back}
+use Rattle.clause_language.proofs.laws.files_are_read_back.Goals as goal
+
+pub returns-clause-definition_printed : goal.returns-clause-definition_printed
+returns-clause-definition_printed c = definition-text_read
+
+pub returns-clause-definition_printable : goal.returns-clause-definition_printable
+returns-clause-definition_printable c = definition-printable
+
+pub returns-clause-definition_back : goal.returns-clause-definition_back
+returns-clause-definition_back c = definition-read_back
+
+pub returns-clause-certificate_printed : goal.returns-clause-certificate_printed
+returns-clause-certificate_printed c = certificate-text_read
+
+pub returns-clause-certificate_printable : goal.returns-clause-certificate_printable
+returns-clause-certificate_printable c = certificate-printable
+
+pub returns-clause-certificate_back : goal.returns-clause-certificate_back
+returns-clause-certificate_back c = certificate-read_back

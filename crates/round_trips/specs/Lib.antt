@@ -1,5 +1,0 @@
-pub mod Spelled
-pub mod Order
-pub mod EachName
-pub mod Printable
-pub mod RoundTrip

@@ -1,2 +1,0 @@
-//! Laws that are developed here and move to `clause_language`.
-#![tactic(auto)]
