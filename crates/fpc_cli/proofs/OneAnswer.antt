@@ -24,28 +24,19 @@ use Rattle.polarised_formulas.proofs.ProblemReading.{problem-read_once, problem-
 use Rattle.fpc_base.specs.Reading.{ReadsAll, RefusesAll}
 use Rattle.explicit_kernel.specs.Judgment.{Judgment, Course, course_of, judgment}
 use Rattle.fpc_cli.specs.declared.answer.Answer.{Answer}
-use Rattle.fpc_cli.specs.declared.answer.Answer.TheVariants.{Accepted, Rejected, Refused, Usage, ReadFault, OutOfMemory}
+use Rattle.fpc_cli.specs.declared.answer.Answer.TheVariants.{Accepted, Rejected, Formatted, Refused, Usage, ReadFault, OutOfMemory}
 use Rattle.fpc_cli.specs.declared.answer.Role.TheVariants.{Problem, Definition, Certificate, Explicit, Atom, Native}
-use Rattle.fpc_cli.specs.Command.{verify, usage}
-use Rattle.fpc_cli.specs.Run.{MayHold, MayBeTooLarge, SpellsGoal, IsGood, first_place, IsNotBuilt, IsProblemRefused, left_of, IsVerified, Accepts, Rejects, Refuses, IsCaused}
+use Rattle.fpc_cli.specs.Command.{verify, format, usage}
+use Rattle.fpc_cli.specs.Run.{MayHold, SpellsGoal, IsGood, first_place, IsNotBuilt, IsProblemRefused, left_of, IsVerified, Accepts, Rejects, Refuses, IsCaused}
 use Rattle.fpc_cli.specs.OneAnswer.{IsKnown, IsFound, HasOneAnswer}
+use Rattle.fpc_cli.proofs.Contents.{same-bytes, small-or-large}
+use Rattle.fpc_cli.proofs.FormatAnswer as printing
 use Rattle.fpc_cli.specs.Due.{IsGiven, IsProblemOf, answer_due, JudgmentIsGiven, RefusalIsGiven, MissingIsGiven}
 
 -- what the law of numbers says of judgments
 abbrev DontMatter : Type 0
 DontMatter = (text text' : ℕ → List ℕ) (number number' : List ℕ → ℕ) → GivesBack text number → GivesBack text' number' → (w : WrittenFormula) → EachNameIn (λ x. begins_name x ≡ true) w
     → (bytes : List ℕ) → judgment number (formula_meant number [] [] w) bytes ≡ judgment number' (formula_meant number' [] [] w) bytes
-
--- a file that is told holds one list of bytes
-same-bytes : (c : Content) (x y : List ℕ) → IsKnown c → MayHold c x → MayHold c y → x ≡ y
-same-bytes untold x y t h k = absurd t
-same-bytes missing x y t h k = absurd h
-same-bytes (holds b) x y t h k = sym h ∙ k
-
-small-or-large : (c : Content) (x : List ℕ) → IsKnown c → MayHold c x → length x ≤ 16777216 → MayBeTooLarge c → ⊥
-small-or-large untold x t h small large = t
-small-or-large missing x t h small large = h
-small-or-large (holds b) x t h small large = let e = ap length h in omega (arith, e, small, large)
 
 -- what is read of a file that is told is read of the bytes that it holds
 reads-same : (c : Content) (x y : List ℕ) (w : WrittenProblem) → IsKnown c → MayHold c x → MayHold c y → ReadsAll IsProblem ProblemLimits [] (items_of x) w → ReadsAll IsProblem ProblemLimits [] (items_of y) w
@@ -166,6 +157,7 @@ module _ (numbers : DontMatter) (p e : List ℕ) (content : List ℕ → Content
   view o o' left before now calm (Refused Certificate r) found (there, same, opened, refusal) = absurd there
   view o o' left before now calm (Refused Atom r) found (there, same, opened, refusal) = absurd there
   view o o' left before now calm (Refused Native r) found (there, same, opened, refusal) = absurd there
+  view o o' left before now calm (Formatted text) found (same, h) = absurd h
   view o o' left before now calm Usage found (e', same, none) = let never : ⊥ = cc in absurd never
   view o o' left before now calm ReadFault found (asked, inl (rose, nothing)) = absurd (calm rose)
   view o o' left before now calm ReadFault found (asked, inr (inl (m, none))) = no_file (inl m)
@@ -293,6 +285,7 @@ usage-is content o o' left before now (Refused Certificate r) found (there, same
 usage-is content o o' left before now (Refused Explicit r) found (there, same, opened, refusal) = absurd there
 usage-is content o o' left before now (Refused Atom r) found (there, same, opened, refusal) = absurd there
 usage-is content o o' left before now (Refused Native r) found (there, same, opened, refusal) = absurd there
+usage-is content o o' left before now (Formatted text) found (same, h) = absurd h
 usage-is content o o' left before now Usage found h = refl
 usage-is content o o' left before now ReadFault found (asked, h) = absurd (asked refl)
 usage-is content o o' left before now OutOfMemory found h = absurd found
@@ -300,6 +293,8 @@ usage-is content o o' left before now OutOfMemory found h = absurd found
 pub one-answer : DontMatter → HasOneAnswer
 one-answer numbers (verify p e) content told o o' q q' left left' before now before' now' calm calm' a b h k found found' =
     one numbers p e content told.0 told.1 left left' a b (view numbers p e content told.0 told.1 o o' left before now calm a found h) (view numbers p e content told.0 told.1 q q' left' before' now' calm' b found' k)
+one-answer numbers (format form file) content told o o' q q' left left' before now before' now' calm calm' a b h k found found' =
+    printing.one form file content told a b (printing.view form file content told o o' left before now calm a found h) (printing.view form file content told q q' left' before' now' calm' b found' k)
 one-answer numbers usage content told o o' q q' left left' before now before' now' calm calm' a b h k found found' = usage-is content o o' left before now a found h ∙ sym (usage-is content q q' left' before' now' b found' k)
 
 module _ (numbers : DontMatter) (p e : List ℕ) (content : List ℕ → Content) (a : Answer) (h : IsGiven p e content a) where

@@ -14,9 +14,10 @@ use Rattle.explicit_kernel.specs.declared.verify.VerifyRefusal.{VerifyRefusal}
 use Rattle.explicit_kernel.specs.declared.verify.VerifyRefusal.TheVariants.{Refused as RefusedAt, ReadFault as Fault, OutOfMemory as NoMemory}
 use Rattle.explicit_kernel.proofs.JudgmentLaws.{judgment_stays}
 use Rattle.fpc_cli.specs.declared.answer.Answer.{Answer}
-use Rattle.fpc_cli.specs.declared.answer.Answer.TheVariants.{Accepted, Rejected, Refused, Usage, ReadFault, OutOfMemory}
+use Rattle.fpc_cli.specs.declared.answer.Answer.TheVariants.{Accepted, Rejected, Formatted, Refused, Usage, ReadFault, OutOfMemory}
 use Rattle.fpc_cli.specs.declared.answer.Role.TheVariants.{Problem, Definition, Certificate, Explicit, Atom, Native}
-use Rattle.fpc_cli.specs.Command.{Asked, verify, usage}
+use Rattle.fpc_cli.specs.declared.command.Form.{Form}
+use Rattle.fpc_cli.specs.Command.{Asked, verify, format, usage}
 use Rattle.fpc_cli.specs.Run.{HasFilesTo, HasOpenedTo, HasOpenedSome, MayHold, SpellsGoal, left_of, IsVerified, Accepts, Rejects, Refuses, IsUndecided, IsCaused, IsAnswerOf}
 
 pub from-ok : {T E P : Type 0} (r : Result T E) → is_err r ≡ false → OnOk r P → P
@@ -114,21 +115,49 @@ caused-so known names grows differ goal p e content spelled closed lkf o o' open
 pub moved : (C D : List ℕ → Content) (b d : ℕ) (T : (List ℕ → Content) → ℕ → Type 0) → C ≡ D → b ≡ d → T C b → T D d
 moved C D b d T same count h = subst (λ (x : ℕ). T D x) count (subst (λ (X : List ℕ → Content). T X b) same h)
 
+-- no file but those of the command was opened, for each command
+verify-some : (p e : List ℕ) (content : List ℕ → Content) (old new : Option (List (List ℕ))) (left : Option (List ℕ)) (before now : ℕ) (a : Answer)
+    → IsCaused (verify p e) content old new left before now a → HasOpenedSome (verify p e) old new
+verify-some p e content old new left before now (Accepted n) (there, same, opened, judged, proved) = inr (inr opened)
+verify-some p e content old new left before now (Rejected k) (there, same, opened, judged) = inr (inr opened)
+verify-some p e content old new left before now (Formatted text) (same, h) = absurd h
+verify-some p e content old new left before now (Refused Problem r) (there, same, opened, refusal) = inr (inl opened)
+verify-some p e content old new left before now (Refused Explicit r) (there, same, opened, refusal) = inr (inr opened)
+verify-some p e content old new left before now (Refused Definition r) (there, same, opened, refusal) = absurd opened
+verify-some p e content old new left before now (Refused Certificate r) (there, same, opened, refusal) = absurd opened
+verify-some p e content old new left before now (Refused Atom r) (there, same, opened, refusal) = absurd opened
+verify-some p e content old new left before now (Refused Native r) (there, same, opened, refusal) = absurd opened
+verify-some p e content old new left before now Usage (is, same, none) = inl none
+verify-some p e content old new left before now ReadFault (is, inl (rose, inl none)) = inl none
+verify-some p e content old new left before now ReadFault (is, inl (rose, inr (inl opened))) = inr (inl opened)
+verify-some p e content old new left before now ReadFault (is, inl (rose, inr (inr (opened, going)))) = inr (inr opened)
+verify-some p e content old new left before now ReadFault (is, inr (inl (m, none))) = inl none
+verify-some p e content old new left before now ReadFault (is, inr (inr (g, m, opened))) = inr (inl opened)
+verify-some p e content old new left before now OutOfMemory opened = opened
+
+format-some : (kind : Form) (file : List ℕ) (content : List ℕ → Content) (old new : Option (List (List ℕ))) (left : Option (List ℕ)) (before now : ℕ) (a : Answer) → IsCaused (format kind file) content old new left before now a → HasOpenedSome (format kind file) old new
+format-some kind file content old new left before now (Accepted n) (there, same, opened, judged, proved) = absurd judged
+format-some kind file content old new left before now (Rejected k) (there, same, opened, judged) = absurd judged
+format-some kind file content old new left before now (Formatted text) (same, (there, opened, printed)) = inr opened
+format-some kind file content old new left before now (Refused role r) (there, same, opened, refusal) = inr opened.1
+format-some kind file content old new left before now Usage (is, same, none) = inl none
+format-some kind file content old new left before now ReadFault (is, inl (rose, h)) = h
+format-some kind file content old new left before now ReadFault (is, inr (m, none)) = inl none
+format-some kind file content old new left before now OutOfMemory opened = opened
+
+usage-some : (content : List ℕ → Content) (old new : Option (List (List ℕ))) (left : Option (List ℕ)) (before now : ℕ) (a : Answer)
+    → IsCaused usage content old new left before now a → HasOpenedSome usage old new
+usage-some content old new left before now (Accepted n) (there, same, opened, judged, proved) = absurd there
+usage-some content old new left before now (Rejected k) (there, same, opened, judged) = absurd there
+usage-some content old new left before now (Formatted text) (same, h) = absurd h
+usage-some content old new left before now (Refused role r) (there, same, opened, refusal) = absurd there
+usage-some content old new left before now Usage (is, same, none) = none
+usage-some content old new left before now ReadFault (is, inl (rose, none)) = none
+usage-some content old new left before now ReadFault (is, inr misses) = absurd misses
+usage-some content old new left before now OutOfMemory opened = opened
+
 -- whatever the answer, no file but those of the command was opened
 pub opened-some : (asked : Asked) (content : List ℕ → Content) (old new : Option (List (List ℕ))) (left : Option (List ℕ)) (before now : ℕ) (a : Answer) → IsCaused asked content old new left before now a → HasOpenedSome asked old new
-opened-some asked content old new left before now (Accepted n) (there, same, opened, judged, proved) = inr (inr opened)
-opened-some asked content old new left before now (Rejected k) (there, same, opened, judged) = inr (inr opened)
-opened-some asked content old new left before now (Refused Problem r) (there, same, opened, refusal) = inr (inl opened)
-opened-some asked content old new left before now (Refused Explicit r) (there, same, opened, refusal) = inr (inr opened)
-opened-some asked content old new left before now (Refused Definition r) (there, same, opened, refusal) = absurd opened
-opened-some asked content old new left before now (Refused Certificate r) (there, same, opened, refusal) = absurd opened
-opened-some asked content old new left before now (Refused Atom r) (there, same, opened, refusal) = absurd opened
-opened-some asked content old new left before now (Refused Native r) (there, same, opened, refusal) = absurd opened
-opened-some asked content old new left before now Usage (e, same, none) = inl none
-opened-some asked content old new left before now ReadFault (e, inl (rose, inl none)) = inl none
-opened-some asked content old new left before now ReadFault (e, inl (rose, inr (inl opened))) = inr (inl opened)
-opened-some asked content old new left before now ReadFault (e, inl (rose, inr (inr (opened, going)))) = inr (inr opened)
-opened-some (verify p f) content old new left before now ReadFault (e, inr (inl (m, none))) = inl none
-opened-some (verify p f) content old new left before now ReadFault (e, inr (inr (g, m, opened))) = inr (inl opened)
-opened-some usage content old new left before now ReadFault (e, inr misses) = absurd misses
-opened-some asked content old new left before now OutOfMemory opened = opened
+opened-some (verify p e) content old new left before now a h = verify-some p e content old new left before now a h
+opened-some (format kind file) content old new left before now a h = format-some kind file content old new left before now a h
+opened-some usage content old new left before now a h = usage-some content old new left before now a h

@@ -1,11 +1,11 @@
--- The line and the status of each of the program's answers.
+-- The text and the status of each of the program's answers.
 use Rattle.std.specs.Prelude.{ℕ, List, [], ◌∷◌, ◌++◌, codes, decimal}
 use Rattle.fpc_base.specs.declared.refusal.Refusal.{Refusal}
 use Rattle.fpc_base.specs.Refusal.{code_number, code_name}
 use Rattle.fpc_cli.specs.declared.answer.Role.{Role}
 use Rattle.fpc_cli.specs.declared.answer.Role.TheVariants.{Problem, Definition, Certificate, Explicit, Atom, Native}
 use Rattle.fpc_cli.specs.declared.answer.Answer.{Answer}
-use Rattle.fpc_cli.specs.declared.answer.Answer.TheVariants.{Accepted, Rejected, Refused, Usage, ReadFault, OutOfMemory}
+use Rattle.fpc_cli.specs.declared.answer.Answer.TheVariants.{Accepted, Rejected, Formatted, Refused, Usage, ReadFault, OutOfMemory}
 
 -- the name of a role
 abbrev pub role_name : Role → List ℕ
@@ -20,6 +20,7 @@ role_name Native = codes "native"
 abbrev pub status_of : Answer → ℕ
 status_of (Accepted steps) = 0
 status_of (Rejected at) = 1
+status_of (Formatted text) = 0
 status_of (Refused role refusal) = 3
 status_of Usage = 4
 status_of ReadFault = 5
@@ -30,15 +31,16 @@ abbrev pub refusal_text : Refusal → List ℕ
 refusal_text refusal =
     decimal (code_number refusal.code) ++ codes " " ++ code_name refusal.code ++ codes " at " ++ decimal refusal.at
 
--- the words of an answer
-abbrev pub answer_words : Answer → List ℕ
-answer_words (Accepted steps) = codes "accepted, " ++ decimal steps ++ codes " steps"
-answer_words (Rejected at) = codes "rejected at step " ++ decimal at
-answer_words (Refused role refusal) = codes "refused " ++ role_name role ++ codes " " ++ refusal_text refusal
-answer_words Usage = codes "usage"
-answer_words ReadFault = codes "read fault"
-answer_words OutOfMemory = codes "want of memory"
+-- the words of an answer, as a line
+abbrev pub line_of : List ℕ → List ℕ
+line_of words = words ++ 10 ∷ []
 
--- the line of an answer: its words and a line end
+-- the text of an answer: a file's printed form as it is, else a line
 abbrev pub answer_text : Answer → List ℕ
-answer_text answer = answer_words answer ++ 10 ∷ []
+answer_text (Accepted steps) = line_of (codes "accepted, " ++ decimal steps ++ codes " steps")
+answer_text (Rejected at) = line_of (codes "rejected at step " ++ decimal at)
+answer_text (Formatted text) = text
+answer_text (Refused role refusal) = line_of (codes "refused " ++ role_name role ++ codes " " ++ refusal_text refusal)
+answer_text Usage = line_of (codes "usage")
+answer_text ReadFault = line_of (codes "read fault")
+answer_text OutOfMemory = line_of (codes "want of memory")

@@ -3,7 +3,7 @@ use Rattle.std.specs.Prelude.{◌≡◌, ℕ, List, Option}
 use Rattle.fpc_base.specs.Outside.{Content, untold, missing, holds, Rose}
 use Rattle.fpc_cli.specs.declared.answer.Answer.{Answer}
 use Rattle.fpc_cli.specs.declared.answer.Answer.TheVariants.{OutOfMemory}
-use Rattle.fpc_cli.specs.Command.{Asked, verify, usage}
+use Rattle.fpc_cli.specs.Command.{Asked, verify, format, usage}
 use Rattle.fpc_cli.specs.Run.{IsCaused}
 
 -- it is told of a file what it holds, or that there is none
@@ -15,6 +15,7 @@ IsKnown (holds bytes) = Unit {0}
 -- so of the files of the command
 abbrev pub AreKnown : Asked → (List ℕ → Content) → Type 0
 AreKnown (verify problem explicit) content = IsKnown (content problem) × IsKnown (content explicit)
+AreKnown (format form file) content = IsKnown (content file)
 AreKnown usage content = Unit {0}
 
 -- memory sufficed for the answer

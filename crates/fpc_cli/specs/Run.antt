@@ -2,7 +2,7 @@
 use Rattle.std.specs.Prelude.{◌≡◌, ◌≢◌, ◌⊎◌, ℕ, ◌+◌, ◌<◌, ◌≤◌, List, [], ◌∷◌, ◌++◌, length, Option, Some, None, Result, Ok, Err}
 use Rattle.fpc_base.specs.Lexeme.{Item, says, items_of}
 use Rattle.fpc_base.specs.Reading.{ReadsAll, RefusesAll}
-use Rattle.fpc_base.specs.Outside.{Content, untold, missing, holds, Rose, Opens, Adds, AddsPrefix}
+use Rattle.fpc_base.specs.Outside.{Content, missing, Rose, Opens, Adds, AddsPrefix}
 use Rattle.fpc_base.specs.declared.refusal.Refusal.{Refusal}
 use Rattle.fpc_base.specs.declared.refusal.Code.TheVariants.{NotBuilt, TooLarge}
 use Rattle.fpc_terms.specs.Name.{Agrees, AreDifferent}
@@ -22,29 +22,26 @@ use Rattle.explicit_kernel.specs.declared.verify.Verdict.TheVariants.{Accepted a
 use Rattle.explicit_kernel.specs.declared.verify.VerifyRefusal.{VerifyRefusal}
 use Rattle.explicit_kernel.specs.declared.verify.VerifyRefusal.TheVariants.{Refused as RefusedAt, ReadFault as Fault, OutOfMemory as NoMemory}
 use Rattle.fpc_cli.specs.declared.answer.Answer.{Answer}
-use Rattle.fpc_cli.specs.declared.answer.Answer.TheVariants.{Accepted, Rejected, Refused, Usage, ReadFault, OutOfMemory}
+use Rattle.fpc_cli.specs.declared.answer.Answer.TheVariants.{Accepted, Rejected, Formatted, Refused, Usage, ReadFault, OutOfMemory}
 use Rattle.fpc_cli.specs.declared.answer.Role.{Role}
 use Rattle.fpc_cli.specs.declared.answer.Role.TheVariants.{Problem, Explicit}
-use Rattle.fpc_cli.specs.Command.{Asked, verify, usage}
+use Rattle.fpc_cli.specs.declared.command.Form.{Form}
+use Rattle.fpc_cli.specs.Command.{Asked, verify, format, usage, role_of}
+pub use Rattle.fpc_cli.specs.Held.{MayHold, MayBeTooLarge}
+use Rattle.fpc_cli.specs.Format.{IsPrintedFrom, IsFormRefused}
 use Rattle.fpc_cli.specs.Answer.{answer_text, status_of}
 
--- the files up to the one of a role are not told as missing; no command asks for the other roles yet
+-- the files of `verify` up to the one of a role are not told as missing; it asks for no other roles
+abbrev pub HasVerifyFilesTo : Role → (problem explicit : Content) → Type 0
+HasVerifyFilesTo Problem problem explicit = problem ≢ missing
+HasVerifyFilesTo Explicit problem explicit = (problem ≢ missing) × (explicit ≢ missing)
+HasVerifyFilesTo _ problem explicit = ⊥
+
+-- the files of the command up to the one of a role are not told as missing; `format` has one file
 abbrev pub HasFilesTo : Role → Asked → (List ℕ → Content) → Type 0
-HasFilesTo Problem (verify problem explicit) content = content problem ≢ missing
-HasFilesTo Explicit (verify problem explicit) content = (content problem ≢ missing) × (content explicit ≢ missing)
-HasFilesTo _ _ content = ⊥
-
--- what is told of a file doesn't speak against these bytes
-abbrev pub MayHold : Content → List ℕ → Type 0
-MayHold untold bytes = Unit {0}
-MayHold missing bytes = ⊥
-MayHold (holds b) bytes = b ≡ bytes
-
--- what is told of a file doesn't speak against more bytes than a source file may have
-abbrev pub MayBeTooLarge : Content → Type 0
-MayBeTooLarge untold = Unit {0}
-MayBeTooLarge missing = ⊥
-MayBeTooLarge (holds b) = 16777216 < length b
+HasFilesTo role (verify problem explicit) content = HasVerifyFilesTo role (content problem) (content explicit)
+HasFilesTo role (format form file) content = (role ≡ role_of form) × (content file ≢ missing)
+HasFilesTo role usage content = ⊥
 
 -- the file's bytes are a problem of LKF with this goal, by the numbers of names in a table
 pub record SpellsGoal (names : List (List ℕ)) (content : Content) (goal : Formula) : Type 0 where
@@ -57,15 +54,22 @@ pub record SpellsGoal (names : List (List ℕ)) (content : Content) (goal : Form
 abbrev pub IsGood : Content → Type 0
 IsGood content = (names : List (List ℕ)) × ((goal : Formula) × SpellsGoal names content goal)
 
--- The files of the command up to the one of a role were opened, each once and in order, and no other. The lists are of the files that were opened before and are now.
+-- The files of `verify` up to the one of a role were opened, each once and in order, and no other. The lists are of the files that were opened before and are now.
+abbrev pub HasOpenedVerify : Role → (problem explicit : List ℕ) → Option (List (List ℕ)) → Option (List (List ℕ)) → Type 0
+HasOpenedVerify Problem problem explicit old new = Opens old problem new
+HasOpenedVerify Explicit problem explicit old new = (mid : Option (List (List ℕ))) × (Opens old problem mid × Opens mid explicit new)
+HasOpenedVerify _ problem explicit old new = ⊥
+
+-- the files of the command up to the one of a role were opened so
 abbrev pub HasOpenedTo : Role → Asked → Option (List (List ℕ)) → Option (List (List ℕ)) → Type 0
-HasOpenedTo Problem (verify problem explicit) old new = Opens old problem new
-HasOpenedTo Explicit (verify problem explicit) old new = (mid : Option (List (List ℕ))) × (Opens old problem mid × Opens mid explicit new)
-HasOpenedTo _ _ old new = ⊥
+HasOpenedTo role (verify problem explicit) old new = HasOpenedVerify role problem explicit old new
+HasOpenedTo role (format form file) old new = (role ≡ role_of form) × Opens old file new
+HasOpenedTo role usage old new = ⊥
 
 -- the first of the files that isn't good is told as missing, and was not opened
 abbrev pub MissesOne : Asked → (List ℕ → Content) → Option (List (List ℕ)) → Option (List (List ℕ)) → Type 0
 MissesOne (verify problem explicit) content old new = ((content problem ≡ missing) × (new ≡ old)) ⊎ (IsGood (content problem) × (content explicit ≡ missing) × Opens old problem new)
+MissesOne (format form file) content old new = (content file ≡ missing) × (new ≡ old)
 MissesOne usage content old new = ⊥
 
 -- the bytes that are left of a file, where it tells them
@@ -105,6 +109,7 @@ IsUndecided c taken j = (st : State) × ((q : List Levelled) × ((n : ℕ) × (c
 -- the files of the command have a judgment that is so
 abbrev pub HasJudgment : Asked → (List ℕ → Content) → Option (List ℕ) → (Course → ℕ → Judgment → Type 0) → Type 0
 HasJudgment (verify problem explicit) content left P = IsVerified (content problem) (content explicit) left P
+HasJudgment (format form file) content left P = ⊥
 HasJudgment usage content left P = ⊥
 
 -- the place of the first token
@@ -129,34 +134,61 @@ IsProblemRefused content refusal =
     ⊎ (((bytes : List ℕ) × (MayHold content bytes × (length bytes ≤ 16777216) × RefusesAll IsProblem ProblemLimits (length bytes) [] (items_of bytes) refusal))
     ⊎ IsNotBuilt content refusal)
 
--- a refusal of a file: of a problem as its grammar tells it, of a certificate as it is judged
+-- a refusal of a file of `verify`: of a problem as its grammar tells it, of a certificate as it is judged
+abbrev pub IsVerifyRefusal : Role → (problem explicit : Content) → Option (List ℕ) → Refusal → Type 0
+IsVerifyRefusal Problem problem explicit left refusal = IsProblemRefused problem refusal
+IsVerifyRefusal Explicit problem explicit left refusal = IsVerified problem explicit left (Refuses refusal)
+IsVerifyRefusal _ problem explicit left refusal = ⊥
+
+-- a refusal of a file of the command
 abbrev pub IsRefusalOf : Role → Asked → (List ℕ → Content) → Option (List ℕ) → Refusal → Type 0
-IsRefusalOf Problem (verify problem explicit) content left refusal = IsProblemRefused (content problem) refusal
-IsRefusalOf Explicit asked content left refusal = HasJudgment asked content left (Refuses refusal)
-IsRefusalOf _ _ content left refusal = ⊥
+IsRefusalOf role (verify problem explicit) content left refusal = IsVerifyRefusal role (content problem) (content explicit) left refusal
+IsRefusalOf role (format form file) content left refusal = (role ≡ role_of form) × IsFormRefused form (content file) refusal
+IsRefusalOf role usage content left refusal = ⊥
+
+-- the text is the printed form of the file that is to be printed, which is not told as missing, and was opened once, and no other
+abbrev pub IsFormatted : Asked → (List ℕ → Content) → Option (List (List ℕ)) → Option (List (List ℕ)) → List ℕ → Type 0
+IsFormatted (verify problem explicit) content old new text = ⊥
+IsFormatted (format form file) content old new text = (content file ≢ missing) × Opens old file new × IsPrintedFrom form (content file) text
+IsFormatted usage content old new text = ⊥
 
 -- some closed goal of LKF has a spelling of so many steps, and is derivable
 abbrev pub IsProved : Asked → (List ℕ → Content) → ℕ → Type 0
 IsProved (verify problem explicit) content n = (names : List (List ℕ)) × ((goal : Formula) × (SpellsGoal names (content problem) goal × IsClosed goal × IsLkf goal × HasSpelling goal n × IsDerivable goal))
+IsProved (format form file) content n = ⊥
 IsProved usage content n = ⊥
 
--- no file was opened, or the problem's, or both, and no other
+-- no file was opened, or the problem's, or both, and no other; of `format`, no file or the one
 abbrev pub HasOpenedSome : Asked → Option (List (List ℕ)) → Option (List (List ℕ)) → Type 0
-HasOpenedSome asked old new = (new ≡ old) ⊎ (HasOpenedTo Problem asked old new ⊎ HasOpenedTo Explicit asked old new)
+HasOpenedSome (verify problem explicit) old new = (new ≡ old) ⊎ (HasOpenedVerify Problem problem explicit old new ⊎ HasOpenedVerify Explicit problem explicit old new)
+HasOpenedSome (format form file) old new = (new ≡ old) ⊎ Opens old file new
+HasOpenedSome usage old new = new ≡ old
 
--- The certificate's file was not opened, or what was taken of it shows nothing.
+-- The certificate's file was not opened, or what was taken of it shows nothing. Of a file that is to be printed nothing is told before its end.
 abbrev pub ShowsNothing : Asked → (List ℕ → Content) → Option (List (List ℕ)) → Option (List (List ℕ)) → Option (List ℕ) → Type 0
-ShowsNothing asked content old new left = (new ≡ old) ⊎ (HasOpenedTo Problem asked old new ⊎ (HasOpenedTo Explicit asked old new × HasJudgment asked content left IsUndecided))
+ShowsNothing (verify problem explicit) content old new left =
+    (new ≡ old) ⊎ (HasOpenedVerify Problem problem explicit old new ⊎ (HasOpenedVerify Explicit problem explicit old new × IsVerified (content problem) (content explicit) left IsUndecided))
+ShowsNothing (format form file) content old new left = (new ≡ old) ⊎ Opens old file new
+ShowsNothing usage content old new left = new ≡ old
 
 -- An answer's cause, in what was asked, what is told of the files, which of them were opened before and are now, what is left of the one that is open, and the counts of their faults before and now.
 abbrev pub IsCaused : Asked → (List ℕ → Content) → Option (List (List ℕ)) → Option (List (List ℕ)) → Option (List ℕ) → ℕ → ℕ → Answer → Type 0
 IsCaused asked content old new left before now (Accepted n) =
     HasFilesTo Explicit asked content × (now ≡ before) × HasOpenedTo Explicit asked old new × HasJudgment asked content left (Accepts n) × IsProved asked content n
 IsCaused asked content old new left before now (Rejected k) = HasFilesTo Explicit asked content × (now ≡ before) × HasOpenedTo Explicit asked old new × HasJudgment asked content left (Rejects k)
+IsCaused asked content old new left before now (Formatted text) = (now ≡ before) × IsFormatted asked content old new text
 IsCaused asked content old new left before now (Refused role refusal) = HasFilesTo role asked content × (now ≡ before) × HasOpenedTo role asked old new × IsRefusalOf role asked content left refusal
 IsCaused asked content old new left before now Usage = (asked ≡ usage) × (now ≡ before) × (new ≡ old)
 IsCaused asked content old new left before now ReadFault = (asked ≢ usage) × ((Rose before now × ShowsNothing asked content old new left) ⊎ MissesOne asked content old new)
 IsCaused asked content old new left before now OutOfMemory = HasOpenedSome asked old new
+
+-- why the bytes of a file could not be had: an opening or a read failed, it is missing or too large, or memory ran out
+abbrev pub IsUnread : Form → (file : List ℕ) → (List ℕ → Content) → Option (List (List ℕ)) → Option (List (List ℕ)) → ℕ → ℕ → Answer → Type 0
+IsUnread form file content old new before now (Refused role refusal) =
+    (role ≡ role_of form) × (content file ≢ missing) × (now ≡ before) × Opens old file new × (refusal ≡ record { code = TooLarge; at = 16777216 }) × MayBeTooLarge (content file)
+IsUnread form file content old new before now ReadFault = (Rose before now × ((new ≡ old) ⊎ Opens old file new)) ⊎ ((content file ≡ missing) × (new ≡ old))
+IsUnread form file content old new before now OutOfMemory = Opens old file new
+IsUnread form file content old new before now _ = ⊥
 
 -- the sink took the whole text of the answer, or its count rose and it took a part from the front
 abbrev pub IsWritten : Answer → ℕ → ℕ → ℕ → Option (List ℕ) → Option (List ℕ) → Type 0

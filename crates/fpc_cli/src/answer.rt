@@ -1,9 +1,9 @@
 //! The program's answers, their lines and their exit statuses.
 ghost use Rattle.std.specs.Prelude.{◌≡◌, Some, IfOk};
-ghost use Rattle.std.specs.String.{string_bytes};
 ghost use Rattle.fpc_cli.specs.Answer.{answer_text, role_name, status_of};
 
 use crate::status::Status;
+use crate::text::Text;
 use fpc_base::{OutOfMemory, Refusal};
 use std::alloc::Global;
 use std::fmt;
@@ -35,12 +35,14 @@ impl fmt::Display for Role {
 }
 
 /// What the program answers.
-#[derive(Clone, Copy, PartialEq, Eq, Debug)]
+#[derive(Drop)]
 pub enum Answer {
     /// The certificate was played to its end, in so many steps.
     Accepted { steps: u64 },
     /// The certificate is wrong at the step of that number.
     Rejected { at: u64 },
+    /// The printed form of a file.
+    Formatted { text: Text },
     /// A file was refused.
     Refused { role: Role, refusal: Refusal },
     /// The program's words are no command.
@@ -52,7 +54,7 @@ pub enum Answer {
 }
 
 /// The line of `Answer::OutOfMemory`, which is at hand without memory.
-pub const WANT_OF_MEMORY: &str = "want of memory\n";
+pub const WANT_OF_MEMORY: &[u8] = b"want of memory\n";
 
 /// The exit status of an answer.
 pub fn status(answer: &Answer) -> Status
@@ -61,6 +63,7 @@ pub fn status(answer: &Answer) -> Status
     let code = match answer {
         Answer::Accepted { .. } => 0,
         Answer::Rejected { .. } => 1,
+        Answer::Formatted { .. } => 0,
         Answer::Refused { .. } => 3,
         Answer::Usage => 4,
         Answer::ReadFault => 5,
@@ -69,28 +72,36 @@ pub fn status(answer: &Answer) -> Status
     Status { code }
 }
 
-/// The line of an answer.
-pub fn text_of(alloc: Global, answer: &Answer) -> Result<String, OutOfMemory>
-    ensures { IfOk result (λ text. string_bytes text ≡ answer_text answer.now) }
+/// The text of an answer. A printed form is given as it is, in constant time.
+pub fn text_of(alloc: Global, answer: Answer) -> Result<Vec<u8>, OutOfMemory>
+    ensures { IfOk result (λ text. text.items ≡ answer_text answer) }
 {
     match answer {
-        Answer::Accepted { steps } => Ok(format!(in alloc; "accepted, {steps} steps\n")?),
-        Answer::Rejected { at } => Ok(format!(in alloc; "rejected at step {at}\n")?),
-        Answer::Refused { role, refusal } => refused_text(alloc, *role, refusal),
-        Answer::Usage => Ok(String::from_str(alloc, "usage\n")?),
-        Answer::ReadFault => Ok(String::from_str(alloc, "read fault\n")?),
-        Answer::OutOfMemory => Ok(String::from_str(alloc, WANT_OF_MEMORY)?),
+        Answer::Accepted { steps } => accepted_text(alloc, steps),
+        Answer::Rejected { at } => Ok(format!(in alloc; "rejected at step {at}\n")?.into_bytes()),
+        Answer::Formatted { text } => Ok(text.into_bytes()),
+        Answer::Refused { role, refusal } => refused_text(alloc, role, refusal),
+        Answer::Usage => Ok(Vec::from_slice(alloc, b"usage\n")?),
+        Answer::ReadFault => Ok(Vec::from_slice(alloc, b"read fault\n")?),
+        Answer::OutOfMemory => Ok(Vec::from_slice(alloc, WANT_OF_MEMORY)?),
     }
 }
 
+/// The line that says that a certificate is accepted.
+fn accepted_text(alloc: Global, steps: u64) -> Result<Vec<u8>, OutOfMemory>
+    ensures { IfOk result (λ text. text.items ≡ answer_text (Answer.Accepted steps)) }
+{
+    Ok(format!(in alloc; "accepted, {steps} steps\n")?.into_bytes())
+}
+
 /// The line that says why a file was refused.
-fn refused_text(alloc: Global, role: Role, refusal: &Refusal) -> Result<String, OutOfMemory>
-    ensures { IfOk result (λ text. string_bytes text ≡ answer_text (Answer.Refused role refusal.now)) }
+fn refused_text(alloc: Global, role: Role, refusal: Refusal) -> Result<Vec<u8>, OutOfMemory>
+    ensures { IfOk result (λ text. text.items ≡ answer_text (Answer.Refused role refusal)) }
 {
     let code = refusal.code;
     let number = code.number();
     let at = refusal.at;
-    Ok(format!(in alloc; "refused {role} {number} {code} at {at}\n")?)
+    Ok(format!(in alloc; "refused {role} {number} {code} at {at}\n")?.into_bytes())
 }
 
 #[cfg(test)]
@@ -146,14 +157,26 @@ mod tests {
             ),
             (Answer::Usage, "usage\n", 4),
             (Answer::ReadFault, "read fault\n", 5),
-            (Answer::OutOfMemory, WANT_OF_MEMORY, 8),
             (Answer::OutOfMemory, "want of memory\n", 8),
         ];
         for (answer, line, code) in table {
-            let text = text_of(rt.alloc(), &answer)?;
-            assert_eq!(rt; text.as_str(), line);
-            assert_eq!(rt; status(&answer).code, code, "of {answer:?}");
+            assert_eq!(rt; status(&answer).code, code, "of {line:?}");
+            let text = text_of(rt.alloc(), answer)?;
+            assert!(rt; text.as_slice() == line.as_bytes());
         }
+        assert!(rt; WANT_OF_MEMORY == b"want of memory\n".as_slice());
+        Ok(())
+    }
+
+    #[test]
+    fn a_printed_form_is_given_as_it_is(rt: HostRuntime) -> Result<(), Fail> {
+        let bytes = b"lkf tt+.\n";
+        let answer = Answer::Formatted {
+            text: Text::new(Vec::from_slice(rt.alloc(), bytes)?),
+        };
+        assert_eq!(rt; status(&answer).code, 0);
+        let text = text_of(rt.alloc(), answer)?;
+        assert!(rt; text.as_slice() == bytes.as_slice());
         Ok(())
     }
 }

@@ -1,5 +1,6 @@
 //! Laws over the definition of the program's answers. The functions do nothing: their contracts say the laws.
 ghost use Rattle.fpc_cli.specs.Due.{JudgmentIsGiven, MissingIsGiven, RefusalIsGiven};
+ghost use Rattle.fpc_cli.specs.DueFormat.{PrintedFormIsGiven, FormatRefusalIsGiven, FormatMissingIsGiven};
 ghost use Rattle.fpc_cli.specs.OneAnswer.{HasOneAnswer};
 
 /// The words and the contents of the files have one answer, but for want of memory and failed calls.
@@ -7,9 +8,12 @@ pub fn one_answer()
     ensures { HasOneAnswer }
 {}
 
-/// The answer of `verify` is the one that the contents of the files call for, but for want of memory and failed calls.
+/// The answer of `verify` and of `format` is the one that the contents of the files call for, but for want of memory and failed calls.
 pub fn due_answers()
     ensures judgment { JudgmentIsGiven }
     ensures refusal { RefusalIsGiven }
     ensures missing { MissingIsGiven }
+    ensures printed { PrintedFormIsGiven }
+    ensures unprinted { FormatRefusalIsGiven }
+    ensures no_file { FormatMissingIsGiven }
 {}

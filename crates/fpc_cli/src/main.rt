@@ -3,9 +3,12 @@
 
 mod answer;
 mod command;
+mod format;
 mod laws;
 mod run;
+mod source;
 mod status;
+mod text;
 mod words;
 
 use fpc_base::real::{StdFiles, StdSink};

@@ -8,24 +8,23 @@ ghost use Rattle.fpc_cli.specs.Command.{asked_by, verify as asked_to_verify};
 ghost use Rattle.fpc_cli.specs.Run.{HasFilesTo, HasOpenedTo, SpellsGoal, first_place, IsCaused, IsAnswered, IsPut, IsAnswerOf};
 
 use crate::answer::{Answer, Role, WANT_OF_MEMORY, status, text_of};
-use crate::command::{Command, command_of};
+use crate::command::{Command, Form, command_of};
+use crate::format::formatted;
+use crate::source::source_in;
 use crate::status::Status;
 use crate::words::Words;
 use explicit_kernel::verify::{Verdict, VerifyRefusal, verify};
 use fpc_base::outside::{Failed, Files, Sink};
-use fpc_base::refusal::{Code, ParseRefusal, ReadRefusal, Refusal};
+use fpc_base::refusal::{Code, ParseRefusal, Refusal};
 use fpc_base::steps::Steps;
 use fpc_base::tokens::Tokens;
-use fpc_base::transfer::{put, read_all};
+use fpc_base::transfer::put;
 use fpc_terms::names::Names;
 use polarised_formulas::logic::Logic;
 use polarised_formulas::problem::{Problem, read_problem};
 use std::alloc::Global;
 use std::marker::Brand;
 use std::sync::ledger::{Blank, Ledger};
-
-/// The most bytes of a source file.
-const SOURCE_LIMIT: usize = 16_777_216;
 
 /// The place of the first token.
 fn first_place(bytes: &[u8]) -> usize
@@ -69,22 +68,9 @@ fn problem_in<F: Files>(
     ensures never_falls { F.faults files.old ≤ F.faults files.new }
     ensures content { F.content files.new ≡ F.content files.old }
 {
-    if files.open(name).is_err() {
-        return Err(Answer::ReadFault);
-    }
-    let bytes = match read_all(alloc, files, SOURCE_LIMIT) {
+    let bytes = match source_in(alloc, Form::Problem, name, files) {
         Ok(bytes) => bytes,
-        Err(ReadRefusal::Failed) => return Err(Answer::ReadFault),
-        Err(ReadRefusal::OutOfMemory) => return Err(Answer::OutOfMemory),
-        Err(ReadRefusal::TooLarge) => {
-            return Err(Answer::Refused {
-                role: Role::Problem,
-                refusal: Refusal {
-                    code: Code::TooLarge,
-                    at: SOURCE_LIMIT,
-                },
-            });
-        }
+        Err(answer) => return Err(answer),
     };
     match read_problem(alloc, names, bytes.as_slice()) {
         Ok(problem) => {
@@ -187,6 +173,7 @@ fn answer<F: Files>(alloc: Global, words: &Words, files: &mut F) -> Answer
 {
     match command_of(words) {
         Command::Verify { problem, explicit } => verified(alloc, problem, explicit, files),
+        Command::Format { form, file } => formatted(alloc, form, file, files),
         Command::Usage => Answer::Usage,
     }
 }
@@ -201,7 +188,7 @@ fn write<S: Sink>(status: Status, text: &[u8], out: &mut S) -> Status
     }
 }
 
-/// Runs the program on its words: makes the whole output first, then writes it. The status is 0 for accepted, 1 for rejected,
+/// Runs the program on its words: makes the whole output first, then writes it. The status is 0 for accepted and for a printed form, 1 for rejected,
 /// 3 for a refused file, 4 for words that are no command, 5 for a read fault, 6 for a write fault, 8 for want of memory.
 pub fn run<F: Files, S: Sink>(alloc: Global, words: &Words, files: &mut F, out: &mut S) -> Status
     ensures answered { IsAnswered (asked_by words.now) (F.content files.old) (F.opened files.old) (F.opened files.new) (F.left files.new) (F.faults files.old) (F.faults files.new) result.code
@@ -210,9 +197,10 @@ pub fn run<F: Files, S: Sink>(alloc: Global, words: &Words, files: &mut F, out: 
     ensures content { F.content files.new ≡ F.content files.old }
 {
     let answer = answer(alloc, words, files);
-    match text_of(alloc, &answer) {
-        Ok(text) => write(status(&answer), text.as_bytes(), out),
-        Err(_) => write(status(&Answer::OutOfMemory), WANT_OF_MEMORY.as_bytes(), out),
+    let code = status(&answer);
+    match text_of(alloc, answer) {
+        Ok(text) => write(code, text.as_slice(), out),
+        Err(_) => write(status(&Answer::OutOfMemory), WANT_OF_MEMORY, out),
     }
 }
 

@@ -57,12 +57,22 @@ fn words_of(alloc: Global, list: &str) -> Result<Words, Fail> {
     Ok(words)
 }
 
-/// The status of `verify problem explicit`, and the text that a sink took by ten bytes; its call of the number fails.
-fn told(alloc: Global, files: &mut MemFiles, failing: Option<u64>) -> Result<(u8, Vec<u8>), Fail> {
-    let words = words_of(alloc, "verify problem explicit")?;
-    let mut out = MemSink::new(alloc, 100, numbers(alloc, failing)?, 10)?;
+/// The status of the words of a list, and the text that a sink took by ten bytes; its call of the number fails.
+fn told_by(
+    alloc: Global,
+    list: &str,
+    files: &mut MemFiles,
+    failing: Option<u64>,
+) -> Result<(u8, Vec<u8>), Fail> {
+    let words = words_of(alloc, list)?;
+    let mut out = MemSink::new(alloc, 1000, numbers(alloc, failing)?, 10)?;
     let status = run(alloc, &words, files, &mut out);
     Ok((status.code, Vec::from_slice(alloc, out.bytes())?))
+}
+
+/// The same of `verify problem explicit`.
+fn told(alloc: Global, files: &mut MemFiles, failing: Option<u64>) -> Result<(u8, Vec<u8>), Fail> {
+    told_by(alloc, "verify problem explicit", files, failing)
 }
 
 fn expect(rt: &impl Abort, got: (u8, Vec<u8>), status: u8, text: &[u8]) {
@@ -442,9 +452,273 @@ fn other_words_are_usage(rt: HostRuntime) -> Result<(), Fail> {
         "check a b",
         "check --budget 0 a b c",
         "demo 501",
+        "format",
         "format explicit a",
+        "format atom f",
+        "format problem",
+        "format problem ",
+        "format problem -f",
+        "format problem f g",
     ] {
         expect_usage(&rt, alloc, &words_of(alloc, list)?)?;
+    }
+    Ok(())
+}
+
+/// Expects the answer to the words of a list where a file `problem` has these bytes, in each of three pieces.
+fn expect_format(
+    rt: &impl Abort,
+    alloc: Global,
+    list: &str,
+    bytes: &[u8],
+    status: u8,
+    text: &str,
+) -> Result<(), Fail> {
+    for piece in [1usize, 7, 65_536] {
+        let mut files = files_of(alloc, bytes, None, None, piece)?;
+        let got = told_by(alloc, list, &mut files, None)?;
+        expect(rt, got, status, text.as_bytes());
+    }
+    Ok(())
+}
+
+#[test]
+fn problems_of_both_logics_are_printed(rt: HostRuntime) -> Result<(), Fail> {
+    let table: [(&[u8], u8, &str); 9] = [
+        (b"lkf (p|-~q) .", 0, "lkf (p |- ~q).\n"),
+        (b"% all\nlkf\ttt+ .%", 0, "lkf tt+.\n"),
+        (
+            b"lkf all A:some B:(r(A,B)|+ ~r(B,f(A))).",
+            0,
+            "lkf all X0 : some X1 : (r(X0,X1) |+ ~r(X1,f(X0))).\n",
+        ),
+        (b"ljf (+p=>-q(c)).", 0, "ljf (+p => -q(c)).\n"),
+        (b"ljf(ff|(tt-&- -p)).", 0, "ljf (ff | (tt- &- -p)).\n"),
+        (b"", 3, "refused problem 2 Unexpected at 0\n"),
+        (b"ljf p.", 3, "refused problem 2 Unexpected at 4\n"),
+        (b"lkf (p & q).", 3, "refused problem 1 BadByte at 7\n"),
+        (b"lkf p(X).", 3, "refused problem 2 Unexpected at 6\n"),
+    ];
+    for (bytes, status, text) in table {
+        expect_format(
+            &rt,
+            rt.alloc(),
+            "format problem problem",
+            bytes,
+            status,
+            text,
+        )?;
+    }
+    Ok(())
+}
+
+#[test]
+fn definitions_are_printed(rt: HostRuntime) -> Result<(), Fail> {
+    let table: [(&[u8], u8, &str); 7] = [
+        (b"lkf p(X,Y):-q(Y),r.%c", 0, "lkf\np(V0,V1) :- q(V1), r.\n"),
+        (b"ljf", 0, "ljf\n"),
+        (
+            b"lkf a. formula f(B,A) := p(A,B). b.",
+            0,
+            "lkf\nformula f(P0,P1) := p(P1,P0).\na.\nb.\n",
+        ),
+        (
+            b"lkf formula f := tt+. formula f := tt-.",
+            3,
+            "refused definition 6 DuplicateFormula at 30\n",
+        ),
+        (
+            b"lkf certificate f.",
+            3,
+            "refused definition 2 Unexpected at 4\n",
+        ),
+        (b"", 3, "refused definition 2 Unexpected at 0\n"),
+        (DEFINITION, 0, PRINTED_DEFINITION),
+    ];
+    for (bytes, status, text) in table {
+        expect_format(
+            &rt,
+            rt.alloc(),
+            "format definition problem",
+            bytes,
+            status,
+            text,
+        )?;
+    }
+    Ok(())
+}
+
+#[test]
+fn certificates_are_printed(rt: HostRuntime) -> Result<(), Fail> {
+    let table: [(&[u8], u8, &str); 5] = [
+        (
+            b"lkf certificate f(B,A,B).",
+            0,
+            "lkf\ncertificate f(V0,V1,V0).\n",
+        ),
+        (
+            b"ljf p(A):-q.certificate Z.",
+            0,
+            "ljf\np(V0) :- q.\ncertificate V0.\n",
+        ),
+        (
+            b"lkf formula f := tt+. formula f := tt-. certificate c.",
+            3,
+            "refused certificate 6 DuplicateFormula at 30\n",
+        ),
+        (b"lkf p.", 3, "refused certificate 2 Unexpected at 6\n"),
+        (b"", 3, "refused certificate 2 Unexpected at 0\n"),
+    ];
+    for (bytes, status, text) in table {
+        expect_format(
+            &rt,
+            rt.alloc(),
+            "format certificate problem",
+            bytes,
+            status,
+            text,
+        )?;
+    }
+    Ok(())
+}
+
+const DEFINITION: &[u8] = b"lkf
+and_c(X,X,X). or_c(X,X). ff_c(X,X). all_c(X,Y,X). store_c(X,X,i).
+decide_e(s(N),N,i). release_e(X,X). init_e(X,i). tt_e(X).
+and_e(X,X,X). or_e(X,X,C). some_e(X,X,T).
+";
+
+const PRINTED_DEFINITION: &str = "lkf
+and_c(V0,V0,V0).
+or_c(V0,V0).
+ff_c(V0,V0).
+all_c(V0,V1,V0).
+store_c(V0,V0,i).
+decide_e(s(V0),V0,i).
+release_e(V0,V0).
+init_e(V0,i).
+tt_e(V0).
+and_e(V0,V0,V0).
+or_e(V0,V0,V1).
+some_e(V0,V0,V1).
+";
+
+/// Whether these first bytes of the definition are a whole one: their last one that is no blank is a dot, or there is the
+/// word of the logic and no more.
+fn is_whole_cut(bytes: &[u8]) -> bool {
+    let mut last = b' ';
+    for byte in bytes {
+        if *byte != b' ' && *byte != b'\n' {
+            last = *byte;
+        }
+    }
+    last == b'.' || bytes.len() == 3 || bytes.len() == 4
+}
+
+/// Where the definition is refused when it is cut to its first bytes and is not whole: at the end, at a word that does not yet
+/// say the logic, or at the beginning of a name that is a keyword up to the cut.
+fn place_of_cut(length: usize) -> usize {
+    match length {
+        1 | 2 => 0,
+        31 => 29,
+        43 => 40,
+        121 => 119,
+        159 => 155,
+        _ => length,
+    }
+}
+
+#[test]
+fn a_definition_is_refused_where_it_is_cut(rt: HostRuntime) -> Result<(), Fail> {
+    for length in 0..DEFINITION.len() {
+        expect_cut(&rt, rt.alloc(), &DEFINITION[..length])?;
+    }
+    Ok(())
+}
+
+/// Expects the answer to these first bytes of the definition.
+fn expect_cut(rt: &impl Abort, alloc: Global, bytes: &[u8]) -> Result<(), Fail> {
+    let mut files = files_of(alloc, bytes, None, None, 65_536)?;
+    let got = told_by(alloc, "format definition problem", &mut files, None)?;
+    if is_whole_cut(bytes) {
+        assert_eq!(rt; got.0, 0);
+        return Ok(());
+    }
+    let place = place_of_cut(bytes.len());
+    let text = format!(in alloc; "refused definition 2 Unexpected at {place}\n")?;
+    expect(rt, got, 3, text.as_bytes());
+    Ok(())
+}
+
+#[test]
+fn a_file_of_too_many_bytes_is_not_printed(rt: HostRuntime) -> Result<(), Fail> {
+    let alloc = rt.alloc();
+    let large = vec![in alloc; b'x'; 16_777_217]?;
+    let mut files = files_of(alloc, large.as_slice(), None, None, 65_536)?;
+    for (list, text) in [
+        (
+            "format problem problem",
+            "refused problem 7 TooLarge at 16777216\n",
+        ),
+        (
+            "format definition problem",
+            "refused definition 7 TooLarge at 16777216\n",
+        ),
+        (
+            "format certificate problem",
+            "refused certificate 7 TooLarge at 16777216\n",
+        ),
+    ] {
+        let got = told_by(alloc, list, &mut files, None)?;
+        expect(&rt, got, 3, text.as_bytes());
+    }
+    Ok(())
+}
+
+#[test]
+fn a_missing_file_is_not_printed(rt: HostRuntime) -> Result<(), Fail> {
+    for list in [
+        "format problem nowhere",
+        "format problem builtin:x",
+        "format definition explicit",
+        "format certificate definition",
+    ] {
+        expect_format(&rt, rt.alloc(), list, PROBLEM, 5, "read fault\n")?;
+    }
+    Ok(())
+}
+
+#[test]
+fn each_call_on_a_file_to_be_printed_may_fail(rt: HostRuntime) -> Result<(), Fail> {
+    let alloc = rt.alloc();
+    let table: [(u64, usize, u8, &str); 6] = [
+        (0, 65_536, 5, "read fault\n"),
+        (1, 65_536, 5, "read fault\n"),
+        (2, 65_536, 5, "read fault\n"),
+        (3, 65_536, 0, "lkf (p |- ~p).\n"),
+        (4, 7, 5, "read fault\n"),
+        (5, 7, 0, "lkf (p |- ~p).\n"),
+    ];
+    for (call, piece, status, text) in table {
+        let mut files = files_of(alloc, PROBLEM, None, Some(call), piece)?;
+        let got = told_by(alloc, "format problem problem", &mut files, None)?;
+        expect(&rt, got, status, text.as_bytes());
+    }
+    Ok(())
+}
+
+#[test]
+fn each_call_on_the_sink_of_a_printed_form_may_fail(rt: HostRuntime) -> Result<(), Fail> {
+    let alloc = rt.alloc();
+    let table: [(u64, u8, &str); 3] = [
+        (0, 6, ""),
+        (1, 6, "lkf (p |- "),
+        (2, 0, "lkf (p |- ~p).\n"),
+    ];
+    for (call, status, text) in table {
+        let mut files = files_of(alloc, PROBLEM, None, None, 65_536)?;
+        let got = told_by(alloc, "format problem problem", &mut files, Some(call))?;
+        expect(&rt, got, status, text.as_bytes());
     }
     Ok(())
 }

@@ -1,5 +1,6 @@
 use Rattle.explicit_kernel.proofs.SameCourses.{numbers_dont_matter}
 use Rattle.fpc_cli.proofs.OneAnswer.{judgment-is-given, refusal-is-given, missing-is-given}
+use Rattle.fpc_cli.proofs.FormatDue.{printed_form-is-given, format_refusal-is-given, format_missing-is-given}
 use Rattle.fpc_cli.proofs.laws.due_answers.Goals as goal
 
 pub returns-clause-judgment : goal.returns-clause-judgment
@@ -10,3 +11,12 @@ returns-clause-refusal c = refusal-is-given numbers_dont_matter
 
 pub returns-clause-missing : goal.returns-clause-missing
 returns-clause-missing c = missing-is-given numbers_dont_matter
+
+pub returns-clause-printed : goal.returns-clause-printed
+returns-clause-printed c = printed_form-is-given
+
+pub returns-clause-unprinted : goal.returns-clause-unprinted
+returns-clause-unprinted c = format_refusal-is-given
+
+pub returns-clause-no_file : goal.returns-clause-no_file
+returns-clause-no_file c = format_missing-is-given

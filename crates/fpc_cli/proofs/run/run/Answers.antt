@@ -6,5 +6,5 @@ pub returns-in-Err-clause-answered : goal.returns-in-Err-clause-answered
 returns-in-Err-clause-answered g c = record {
   answer = OutOfMemory;
   caused = opened-some _ _ _ _ _ _ _ _ c.answer-answer.ensures.caused;
-  written = rw (c.status-in-Err.ensures, c.as_bytes-in-Err.ensures.value) at c.write-in-Err.ensures;
+  written = rw c.status.ensures at c.write-in-Err.ensures;
 }
