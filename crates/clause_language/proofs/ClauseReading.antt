@@ -9,8 +9,8 @@ use Rattle.fpc_base.specs.declared.tokens.lexeme.Sign.TheVariants as sign
 use Rattle.fpc_base.specs.Lexeme.{Lexeme, a_name, a_sign}
 use Rattle.fpc_terms.specs.Name.{Agrees, AreDifferent, Grows, index_in}
 use Rattle.fpc_terms.specs.Term.{Term, Args, app, terms_in}
-use Rattle.fpc_terms.specs.Written.{WrittenTerm, WrittenArgs, application, variable_word, no_words, variables_in, term_meant, args_meant}
-use Rattle.fpc_terms.specs.Spot.{Spot, alone, in_arguments, in_term}
+use Rattle.fpc_terms.specs.Written.{WrittenTerm, application, variable_word, no_words, variables_in, term_meant, args_meant}
+use Rattle.fpc_terms.specs.Spot.{alone}
 use Rattle.fpc_terms.specs.Machine as term
 use Rattle.fpc_terms.specs.Holding.{Holds}
 use Rattle.fpc_terms.specs.ReadTerm.{any_variable, numbered, HoldsFor, TakesFor}
@@ -24,10 +24,10 @@ use Rattle.clause_language.specs.declared.clause_reader.ClauseReader.{ClauseRead
 use Rattle.clause_language.specs.Written.{WrittenAtom, WrittenClause}
 use Rattle.clause_language.specs.Limits.{AtomPlace, at_head, in_body}
 use Rattle.clause_language.specs.Meant.{atom_meant, clause_meant, clause_variables}
-use Rattle.clause_language.specs.ClauseMachine.{ClauseState, at_atom, in_atom, ended, stuck, atom_of, whole_in, whole_atom, clause_of, behind_atom, behind, gone_on, step, run, clause_start, within, gone_on_within, limited}
+use Rattle.clause_language.specs.ClauseMachine.{ClauseState, at_atom, in_atom, ended, stuck, whole_in, whole_atom, clause_of, behind_atom, behind, gone_on, step, within, gone_on_within, limited}
 use Rattle.clause_language.specs.HoldingClause.{IsAtomOf, is_separator, stands_behind, head_at, body_at, HoldsPlace, HoldsParts, IsReached, HoldsClause, TakesClause}
-use Rattle.clause_language.proofs.ClauseStates.{IsAtomState, IsClauseState}
-use Rattle.clause_language.proofs.ClauseLaws.{clause_behind, clause_behind-step, clause_led, in_atom-variables, ended-variables, variables_in-append}
+use Rattle.clause_language.proofs.ClauseStates.{IsAtomState}
+use Rattle.clause_language.proofs.ClauseLaws.{clause_behind-step, clause_led, in_atom-variables, ended-variables, variables_in-append}
 
 -- what a term's answer says of its step
 pub data Judged (t : term.TermState) : Result term.TermState Code → Type 0 where
@@ -402,8 +402,7 @@ module _ (names : List (List ℕ)) (s : ClauseState) (old : ClauseReader) (d : A
   takes-fact (Ok u) new e f g i =
       let b = stands-told s (a_sign sign.Dot) h.reached e in
       let q = at-place names s (a_sign sign.Dot) old d dv h b at_head (no-head names s (a_sign sign.Dot) old d dv h b f) in
-      let w = clause_of b.whole.atom [] in
-      (
+      let w = clause_of b.whole.atom [] in (
         ended w,
         (
           q,
@@ -424,8 +423,7 @@ module _ (names : List (List ℕ)) (s : ClauseState) (old : ClauseReader) (d : A
       let b = stands-told s (a_sign sign.Dot) h.reached e in
       let k = a-head names s (a_sign sign.Dot) old d dv h b f in
       let q = at-place names s (a_sign sign.Dot) old d dv h b (in_body k.0 k.1.0) k.1.1 in
-      let w = clause_of k.0 (k.1.0 ++ b.whole.atom ∷ []) in
-      (
+      let w = clause_of k.0 (k.1.0 ++ b.whole.atom ∷ []) in (
         ended w,
         (
           q,

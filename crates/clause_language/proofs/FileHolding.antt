@@ -1,41 +1,23 @@
 -- How a definition or certificate file is read token by token.
-use Rattle.std.proofs.Common.{◌≡◌, ℕ, Bool, true, false, ◌||◌, if◌then◌else◌, List, [], ◌∷◌, ◌++◌, append-nil, append_assoc, refl, ap, ap₂, sym, subst, ◌∙◌, Option, Some, None, is_some, Result, Ok, Err, OnOk, IfOk, IfErr, length}
-use Rattle.std.specs.Str.{bytes_eq}
-use Rattle.fpc_base.specs.Tokens.{is_one_of}
-use Rattle.fpc_base.specs.declared.refusal.Code.{Code}
-use Rattle.fpc_base.specs.declared.refusal.Code.TheVariants.{Unexpected, WrongCalculus, DuplicateFormula}
+use Rattle.std.proofs.Common.{◌≡◌, ℕ, List, [], ◌++◌, append-nil, refl, ap, sym, subst, ◌∙◌, Option, Some, None, Result}
 use Rattle.fpc_base.specs.declared.refusal.TokenRefusal.{TokenRefusal}
-use Rattle.fpc_base.specs.declared.refusal.TokenRefusal.TheVariants.{Refused, OutOfMemory}
-use Rattle.fpc_base.specs.declared.tokens.lexeme.Sign.TheVariants as sign
-use Rattle.fpc_base.specs.Lexeme.{Lexeme, a_name, a_variable, a_sign}
-use Rattle.fpc_terms.specs.Name.{Agrees, AreDifferent, Grows, index_in, with_text, place_in}
-use Rattle.fpc_terms.specs.Term.{Term}
-use Rattle.fpc_terms.specs.Written.{WrittenTerm, variables_in, term_meant}
-use Rattle.fpc_terms.specs.Spot.{alone}
+use Rattle.fpc_base.specs.Lexeme.{Lexeme}
+use Rattle.fpc_terms.specs.Name.{Grows}
+use Rattle.fpc_terms.specs.Written.{WrittenTerm}
 use Rattle.fpc_terms.specs.Machine as term
-use Rattle.fpc_terms.specs.Holding.{Holds}
-use Rattle.fpc_terms.specs.ReadTerm.{any_variable, numbered, HoldsFor, TakesFor}
 use Rattle.fpc_terms.specs.declared.reader.TermReader.{TermReader}
 use Rattle.polarised_formulas.specs.declared.logic.Logic.{Logic}
-use Rattle.polarised_formulas.specs.declared.logic.Logic.TheVariants.{Lkf, Ljf}
 use Rattle.clause_language.specs.declared.clause.Clause.{Clause}
-use Rattle.clause_language.specs.declared.clause_reader.ClauseReader.{ClauseReader}
 use Rattle.clause_language.specs.declared.declaration.DeclaredFormula.{DeclaredFormula}
-use Rattle.clause_language.specs.declared.declaration_reader.DeclarationReader.{DeclarationReader}
 use Rattle.clause_language.specs.declared.file.FileKind.{FileKind}
-use Rattle.clause_language.specs.declared.file.FileKind.TheVariants.{Definition, Certificate}
 use Rattle.clause_language.specs.declared.file.FileReader.{FileReader}
 use Rattle.clause_language.specs.declared.file.Phase.{Phase}
 use Rattle.clause_language.specs.declared.file.Phase.TheVariants as phase
-use Rattle.clause_language.specs.Written.{WrittenItem, WrittenClause, declaration, a_clause}
-use Rattle.clause_language.specs.Limits.{declared_names}
-use Rattle.clause_language.specs.Meant.{declared_meant, clauses_meant}
+use Rattle.clause_language.specs.Written.{WrittenItem}
 use Rattle.clause_language.specs.ClauseMachine as clause
 use Rattle.clause_language.specs.DeclarationMachine as declaring
-use Rattle.clause_language.specs.FileMachine.{FileState, start, at_item, in_declaration, in_clause, in_term, finished, lost, is_other, begun_within, declared_within, claused_within, read_within, limited}
-use Rattle.clause_language.specs.HoldingClause.{HoldsClause, TakesClause}
-use Rattle.clause_language.specs.HoldingDeclaration.{HoldsDeclaration, TakesDeclaration}
-use Rattle.clause_language.specs.HoldingFile.{AreTaken, name_read, HoldsItems, IsBehind, HoldsTerm, HoldsWholeTerm, IsFresh, HoldsFile, TakesFile}
+use Rattle.clause_language.specs.FileMachine.{FileState, start, at_item, in_declaration, in_clause, in_term, finished, lost, limited}
+use Rattle.clause_language.specs.HoldingFile.{AreTaken, HoldsItems, HoldsTerm, HoldsFile, TakesFile}
 
 -- what comes next in a state
 abbrev phase_of : FileState → Option Phase

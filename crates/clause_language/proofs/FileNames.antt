@@ -1,13 +1,13 @@
 -- A definition or certificate that is read has its names in the table.
 use Rattle.std.proofs.Common.{◌≡◌, ℕ, List, [], ◌∷◌, map, length, refl, ap, sym, ◌∙◌}
 use Rattle.fpc_terms.specs.Name.{Agrees, AreDifferent, index_in}
-use Rattle.fpc_terms.specs.Term.{Term, Args, no_args, arg, terms_in}
-use Rattle.fpc_terms.specs.Printing.{HasNamesBelow, HaveNamesBelow}
+use Rattle.fpc_terms.specs.Term.{Args, no_args, arg, terms_in}
+use Rattle.fpc_terms.specs.Printing.{HaveNamesBelow}
 use Rattle.fpc_terms.specs.ReadTerm.{numbered}
-use Rattle.fpc_terms.specs.Written.{WrittenTerm, args_meant, term_meant}
+use Rattle.fpc_terms.specs.Written.{args_meant}
 use Rattle.fpc_terms.proofs.NamesBelow.{number-below, args-below, term-below}
 use Rattle.fpc_terms.proofs.ReadFacts.{Agrees-index_in}
-use Rattle.polarised_formulas.specs.Written.{WrittenFormula, formula_meant}
+use Rattle.polarised_formulas.specs.Written.{formula_meant}
 use Rattle.polarised_formulas.proofs.FormulaNames.{told-names}
 use Rattle.clause_language.specs.declared.atom.Atom.{Atom}
 use Rattle.clause_language.specs.declared.certificate.Certificate.{Certificate}

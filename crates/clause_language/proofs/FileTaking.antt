@@ -1,5 +1,5 @@
 -- What the reader of files holds behind a token.
-use Rattle.std.proofs.Common.{◌≡◌, ℕ, Bool, true, false, ◌||◌, if◌then◌else◌, List, [], ◌∷◌, ◌++◌, append-nil, append_assoc, refl, ap, ap₂, sym, subst, ◌∙◌, Option, Some, None, is_some, Result, Ok, Err, OnOk, IfOk, IfErr, nat_eq, length}
+use Rattle.std.proofs.Common.{◌≡◌, ℕ, Bool, true, false, ◌||◌, if◌then◌else◌, List, [], ◌∷◌, ◌++◌, append-nil, append_assoc, refl, ap, ap₂, sym, subst, ◌∙◌, Option, Some, None, is_some, Result, Ok, Err, OnOk, IfErr, nat_eq, length}
 use Rattle.std.specs.Str.{bytes_eq}
 use Rattle.fpc_base.specs.Tokens.{is_one_of}
 use Rattle.fpc_base.specs.declared.refusal.Code.{Code}
@@ -8,7 +8,7 @@ use Rattle.fpc_base.specs.declared.refusal.TokenRefusal.{TokenRefusal}
 use Rattle.fpc_base.specs.declared.refusal.TokenRefusal.TheVariants.{Refused, OutOfMemory}
 use Rattle.fpc_base.specs.declared.tokens.lexeme.Sign.TheVariants as sign
 use Rattle.fpc_base.specs.Lexeme.{Lexeme, a_name, a_variable, a_sign}
-use Rattle.fpc_terms.specs.Name.{Agrees, AreDifferent, Grows, index_in, with_text, place_in}
+use Rattle.fpc_terms.specs.Name.{Agrees, Grows, index_in, with_text, place_in}
 use Rattle.fpc_terms.specs.Spot.{alone}
 use Rattle.fpc_terms.specs.Machine as term
 use Rattle.polarised_formulas.specs.declared.logic.Logic.{Logic}
@@ -30,13 +30,13 @@ use Rattle.clause_language.specs.Limits.{at_head, declared_names}
 use Rattle.clause_language.specs.Meant.{declared_meant, clauses_meant, declaration_meant, clause_meant}
 use Rattle.clause_language.specs.ClauseMachine as clause
 use Rattle.clause_language.specs.DeclarationMachine as declaring
-use Rattle.clause_language.specs.FileMachine.{FileState, start, at_item, in_declaration, in_clause, in_term, declared, claused, is_other, begun_within, declared_within, claused_within, limited}
+use Rattle.clause_language.specs.FileMachine.{start, at_item, in_declaration, in_clause, in_term, declared, claused, is_other, begun_within, declared_within, claused_within, limited}
 use Rattle.clause_language.specs.HoldingClause.{HoldsClause, TakesClause}
 use Rattle.clause_language.specs.HoldingDeclaration.{HoldsDeclaration, TakesDeclaration}
 use Rattle.clause_language.specs.HoldingFile.{AreTaken, name_read, HoldsItems, HoldsFile, TakesFile}
 use Rattle.clause_language.proofs.DeclarationReading.{mode_of, mode-told}
 use Rattle.clause_language.proofs.FileLaws.{declared_names-append}
-use Rattle.clause_language.proofs.FileHolding.{Held, Took, items-grown, term-grown}
+use Rattle.clause_language.proofs.FileHolding.{items-grown, term-grown}
 
 -- the names that are taken
 or-regrouped : (a b c : Bool) → a || (b || c) ≡ (a || b) || c

@@ -1,16 +1,14 @@
 -- What the reader of files does with a token, in each phase.
-use Rattle.std.proofs.Common.{◌≡◌, ℕ, Bool, true, false, List, [], ◌∷◌, ◌++◌, append-nil, refl, ap, ap₂, sym, subst, ◌∙◌, Option, Some, None, is_some, Result, Ok, Err, OnOk, IfOk, IfErr, length}
-use Rattle.fpc_base.specs.Tokens.{is_one_of}
+use Rattle.std.proofs.Common.{◌≡◌, ℕ, Bool, true, false, List, [], ◌∷◌, ◌++◌, refl, ap, ap₂, sym, subst, ◌∙◌, Option, Some, None, is_some, Result, Ok, Err, OnOk, IfErr, length}
 use Rattle.fpc_base.specs.declared.refusal.Code.{Code}
-use Rattle.fpc_base.specs.declared.refusal.Code.TheVariants.{Unexpected, DuplicateFormula}
-use Rattle.fpc_base.specs.declared.refusal.ParseRefusal.TheVariants as parse
+use Rattle.fpc_base.specs.declared.refusal.Code.TheVariants.{Unexpected}
 use Rattle.fpc_base.specs.declared.refusal.TokenRefusal.{TokenRefusal}
 use Rattle.fpc_base.specs.declared.refusal.TokenRefusal.TheVariants.{Refused, OutOfMemory}
 use Rattle.fpc_base.specs.declared.tokens.lexeme.Sign.TheVariants as sign
 use Rattle.fpc_base.specs.Lexeme.{Lexeme, a_name, a_sign}
-use Rattle.fpc_terms.specs.Name.{Agrees, AreDifferent, Grows, index_in, with_text}
+use Rattle.fpc_terms.specs.Name.{Agrees, AreDifferent, Grows, index_in}
 use Rattle.fpc_terms.specs.Term.{Term}
-use Rattle.fpc_terms.specs.Written.{WrittenTerm, term_tokens, term_meant, variables_in}
+use Rattle.fpc_terms.specs.Written.{WrittenTerm, term_meant, variables_in}
 use Rattle.fpc_terms.specs.Spot.{alone}
 use Rattle.fpc_terms.specs.Machine as term
 use Rattle.fpc_terms.specs.Holding.{Holds}
@@ -29,19 +27,19 @@ use Rattle.clause_language.specs.declared.file.FileKind.{FileKind}
 use Rattle.clause_language.specs.declared.file.FileKind.TheVariants.{Definition, Certificate}
 use Rattle.clause_language.specs.declared.file.FileReader.{FileReader}
 use Rattle.clause_language.specs.declared.file.Phase.TheVariants as phase
-use Rattle.clause_language.specs.Written.{WrittenItem, WrittenDefinition, WrittenCertificate}
-use Rattle.clause_language.specs.Meant.{term_variables, definition_meant, certificate_meant, declared_meant, clauses_meant}
+use Rattle.clause_language.specs.Written.{WrittenItem}
+use Rattle.clause_language.specs.Meant.{term_variables, declared_meant, clauses_meant}
 use Rattle.clause_language.specs.ClauseMachine as clause
 use Rattle.clause_language.specs.DeclarationMachine as declaring
-use Rattle.clause_language.specs.FileMachine.{FileState, start, at_item, in_declaration, in_clause, in_term, finished, lost, declared, claused, dotted, within, read_within, limited, definition_of, certificate_of}
+use Rattle.clause_language.specs.FileMachine.{FileState, at_item, in_declaration, in_clause, in_term, finished, declared, claused, dotted, within, read_within, limited, definition_of, certificate_of}
 use Rattle.clause_language.specs.HoldingClause.{HoldsClause, TakesClause}
 use Rattle.clause_language.specs.HoldingDeclaration.{HoldsDeclaration, TakesDeclaration}
-use Rattle.clause_language.specs.HoldingFile.{AreTaken, HoldsItems, HoldsTerm, HoldsWholeTerm, HoldsFile, TakesFile, IsUnfinished, DefinitionOf, CertificateOf}
+use Rattle.clause_language.specs.HoldingFile.{HoldsFile, TakesFile, DefinitionOf, CertificateOf}
 use Rattle.clause_language.proofs.DeclarationReading.{mode_of, mode-told}
 use Rattle.clause_language.proofs.ClauseReading.{Judged, nowhere, arguments, variables, taken, judged}
 use Rattle.fpc_terms.proofs.TermReading.{whole-is, variables_in-append}
-use Rattle.clause_language.proofs.FileHolding.{Held, Took, by-item, by-declaration, by-clause, by-term, at-item, at-finished, items-grown}
-use Rattle.clause_language.proofs.FileTaking.{found-taken, takes-formula, takes-certificate, refuses-certificate, takes-clause, declaration-refused, takes-declaration, clause-refused, takes-in_clause, refuses-duplicate, takes-new_name}
+use Rattle.clause_language.proofs.FileHolding.{by-item, by-declaration, by-clause, by-term, at-item, at-finished, items-grown}
+use Rattle.clause_language.proofs.FileTaking.{takes-formula, takes-certificate, refuses-certificate, takes-clause, declaration-refused, takes-declaration, clause-refused, takes-in_clause}
 
 module _ (names : List (List ℕ)) (kind : FileKind) (expected : Option Logic) (earlier : List (List ℕ)) (s : FileState) (old : FileReader) (h : HoldsFile names kind expected earlier s old) where
   -- at an item
@@ -79,13 +77,13 @@ module _ (names : List (List ℕ)) (kind : FileKind) (expected : Option Logic) (
     at_name-item result new e f =
         by-declaration names more kind expected earlier result s c old new h m
         (λ logic items d k. (
-          let q : d ≡ declaring.at_name = is-at_name d (mode-told names logic d old.declaration k.3 ∙ ap Some e) in
-          subst (λ t. TakesFile result more kind expected earlier (limited kind expected earlier (in_declaration logic items t) c) new) (sym q)
-          (f logic items (subst (λ t. HoldsFile names kind expected earlier (in_declaration logic items t) old) q k))
+        let q : d ≡ declaring.at_name = is-at_name d (mode-told names logic d old.declaration k.3 ∙ ap Some e) in
+        subst (λ t. TakesFile result more kind expected earlier (limited kind expected earlier (in_declaration logic items t) c) new) (sym q)
+        (f logic items (subst (λ t. HoldsFile names kind expected earlier (in_declaration logic items t) old) q k))
         )) where
-      is-at_name : (d : declaring.DeclarationState) → mode_of d ≡ Some declaring_mode.AtName → d ≡ declaring.at_name
-      is-at_name declaring.at_name q = refl
-      is-at_name _ q = cc
+          is-at_name : (d : declaring.DeclarationState) → mode_of d ≡ Some declaring_mode.AtName → d ≡ declaring.at_name
+          is-at_name declaring.at_name q = refl
+          is-at_name _ q = cc
 
     behind-name : (logic : Logic) (d : declaring.DeclarationState) → HoldsDeclaration names logic d old.declaration → (old.declaration.mode ≡ declaring_mode.AtName → ⊥) → d ≡ declaring.at_name → ⊥
     behind-name logic d k n e = let q : Some declaring_mode.AtName ≡ Some old.declaration.mode = ap mode_of (sym e) ∙ mode-told names logic d old.declaration k in n (let r : old.declaration.mode ≡ declaring_mode.AtName = cc in r)
@@ -134,10 +132,6 @@ one-token t u vs c e = from (term.limited any_variable None vs t c) (judged (ter
   from _ arguments q = cc
   from _ variables q = cc
   from _ (taken live) q = cc
-
-
-
-
 
 limited-in_term : (kind : FileKind) (expected : Option Logic) (earlier : List (List ℕ)) (logic : Logic) (items : List WrittenItem) (t : term.TermState) (vs : List (List ℕ)) (c : Lexeme) → (c ≡ a_sign sign.Dot → ⊥)
     → limited kind expected earlier (in_term logic items t) c ≡ read_within logic items (term.limited any_variable None vs t c)
@@ -226,16 +220,16 @@ module _ (names : List (List ℕ)) (kind : FileKind) (expected : Option Logic) (
       let e = at-item names kind expected earlier r s h m in
       subst (λ t. DefinitionOf names t (record { logic = r.logic; declared = r.declared; clauses = r.clauses })) (sym e.1.1)
       (from e.0 e.1.0 (subst (λ t. HoldsFile names kind expected earlier t r) e.1.1 h)) where
-    from : (logic : Logic) (items : List WrittenItem) → HoldsFile names kind expected earlier (at_item logic items) r
-        → DefinitionOf names (at_item logic items) (record { logic = r.logic; declared = r.declared; clauses = r.clauses })
-    from logic items k = record {
-      written = record { logic = logic; items = items };
-      whole = refl;
-      meant = λ number a. (
-        ap (λ l. (let d : DefinitionFile = record { logic = l; declared = r.declared; clauses = r.clauses } in d)) k.1
-        ∙ ap₂ (λ ds cs. (let d : DefinitionFile = record { logic = logic; declared = ds; clauses = cs } in d)) (k.0.3.declared number a) (k.0.3.clauses number a)
-      );
-    }
+        from : (logic : Logic) (items : List WrittenItem) → HoldsFile names kind expected earlier (at_item logic items) r
+            → DefinitionOf names (at_item logic items) (record { logic = r.logic; declared = r.declared; clauses = r.clauses })
+        from logic items k = record {
+          written = record { logic = logic; items = items };
+          whole = refl;
+          meant = λ number a. (
+              ap (λ l. (let d : DefinitionFile = record { logic = l; declared = r.declared; clauses = r.clauses } in d)) k.1
+              ∙ ap₂ (λ ds cs. (let d : DefinitionFile = record { logic = logic; declared = ds; clauses = cs } in d)) (k.0.3.declared number a) (k.0.3.clauses number a)
+              );
+        }
 
   pub definition-unfinished : (r.phase ≡ phase.AtItem → ⊥) → definition_of s ≡ None
   definition-unfinished n = from s h where
@@ -256,18 +250,18 @@ module _ (names : List (List ℕ)) (kind : FileKind) (expected : Option Logic) (
       let e = at-finished names kind expected earlier r s h m in
       subst (λ t. CertificateOf names t (record { logic = r.logic; declared = r.declared; clauses = r.clauses; term = u; variables = length r.variables })) (sym e.1.1.1)
       (from e.0 e.1.0 e.1.1.0 (subst (λ t. HoldsFile names kind expected earlier t r) e.1.1.1 h)) where
-    from : (logic : Logic) (items : List WrittenItem) (w : WrittenTerm) → HoldsFile names kind expected earlier (finished logic items w) r
-        → CertificateOf names (finished logic items w) (record { logic = r.logic; declared = r.declared; clauses = r.clauses; term = u; variables = length r.variables })
-    from logic items w k = record {
-      written = record { logic = logic; items = items; term = w };
-      whole = refl;
-      meant = λ number a. (
-        let numbers = index_in (term_variables w) in
-        let b : Agrees numbers r.variables = subst (λ vs. Agrees (index_in vs) r.variables) k.2.variables (Agrees-index_in r.variables dv) in
-        let g : Some u ≡ Some (term_meant number (numbered numbers) w) = f number (numbered numbers) k.2.state w (k.2.holds number numbers a b) k.2.whole in
-        let i : u ≡ term_meant number (numbered numbers) w = cc in
-        ap (λ l. (let d : CertificateFile = record { logic = l; declared = r.declared; clauses = r.clauses; term = u; variables = length r.variables } in d)) k.1
-        ∙ ap₂ (λ ds cs. (let d : CertificateFile = record { logic = logic; declared = ds; clauses = cs; term = u; variables = length r.variables } in d)) (k.0.3.declared number a) (k.0.3.clauses number a)
-        ∙ ap₂ (λ v vs. (let d : CertificateFile = record { logic = logic; declared = declared_meant number items; clauses = clauses_meant number items; term = v; variables = length vs } in d)) i k.2.variables
-      );
-    }
+        from : (logic : Logic) (items : List WrittenItem) (w : WrittenTerm) → HoldsFile names kind expected earlier (finished logic items w) r
+            → CertificateOf names (finished logic items w) (record { logic = r.logic; declared = r.declared; clauses = r.clauses; term = u; variables = length r.variables })
+        from logic items w k = record {
+          written = record { logic = logic; items = items; term = w };
+          whole = refl;
+          meant = λ number a. (
+              let numbers = index_in (term_variables w) in
+              let b : Agrees numbers r.variables = subst (λ vs. Agrees (index_in vs) r.variables) k.2.variables (Agrees-index_in r.variables dv) in
+              let g : Some u ≡ Some (term_meant number (numbered numbers) w) = f number (numbered numbers) k.2.state w (k.2.holds number numbers a b) k.2.whole in
+              let i : u ≡ term_meant number (numbered numbers) w = cc in
+              ap (λ l. (let d : CertificateFile = record { logic = l; declared = r.declared; clauses = r.clauses; term = u; variables = length r.variables } in d)) k.1
+              ∙ ap₂ (λ ds cs. (let d : CertificateFile = record { logic = logic; declared = ds; clauses = cs; term = u; variables = length r.variables } in d)) (k.0.3.declared number a) (k.0.3.clauses number a)
+              ∙ ap₂ (λ v vs. (let d : CertificateFile = record { logic = logic; declared = declared_meant number items; clauses = clauses_meant number items; term = v; variables = length vs } in d)) i k.2.variables
+              );
+        }

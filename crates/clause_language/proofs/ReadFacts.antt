@@ -1,5 +1,5 @@
 -- How a file is read to its end.
-use Rattle.std.proofs.Common.{◌≡◌, ℕ, Bool, true, false, ◌||◌, if◌then◌else◌, List, [], ◌∷◌, ◌++◌, map, refl, ap, sym, subst, ◌∙◌, Option, Some, None, Result, Ok, Err, IfOk, IfErr, length}
+use Rattle.std.proofs.Common.{◌≡◌, ℕ, Bool, true, false, ◌||◌, if◌then◌else◌, List, [], ◌∷◌, ◌++◌, refl, ap, sym, subst, ◌∙◌, Option, Result, Ok, Err, IfOk, IfErr, length}
 use Rattle.std.specs.Str.{bytes_eq}
 use Rattle.std.specs.Cmp.Lexicographic.{bytes_decides}
 use Rattle.fpc_base.specs.Tokens.{is_one_of}
@@ -18,7 +18,7 @@ use Rattle.clause_language.specs.declared.file.FileKind.{FileKind}
 use Rattle.clause_language.specs.declared.file.FileKind.TheVariants as kind_of
 use Rattle.clause_language.specs.declared.file.FileReader.{FileReader}
 use Rattle.clause_language.specs.Naming.{IsDefinitionNamedBelow, IsCertificateNamedBelow}
-use Rattle.clause_language.specs.FileMachine.{FileState, start, limited, definition_of, certificate_of}
+use Rattle.clause_language.specs.FileMachine.{FileState, start, limited}
 use Rattle.clause_language.specs.HoldingFile.{AreTaken, HoldsFile, TakesFile, IsDefinitionEnd, IsCertificateEnd}
 use Rattle.clause_language.specs.ReadFile.{DefinitionIsRead, IsDefinitionRefusal, CertificateIsRead, IsCertificateRefusal, answered, read_items, FileIsRead, IsFileRefusal}
 use Rattle.clause_language.proofs.FileReading.{definition-reads, definition-refuses, definition-unfinished, certificate-reads, certificate-refuses, certificate-unfinished}

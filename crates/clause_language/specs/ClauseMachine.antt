@@ -4,7 +4,7 @@ use Rattle.fpc_base.specs.declared.refusal.Code.{Code}
 use Rattle.fpc_base.specs.declared.refusal.Code.TheVariants.{Unexpected}
 use Rattle.fpc_base.specs.declared.tokens.lexeme.Sign.TheVariants as sign
 use Rattle.fpc_base.specs.Lexeme.{Lexeme, a_name, a_sign}
-use Rattle.fpc_terms.specs.Written.{WrittenTerm, application, no_words, variables_in}
+use Rattle.fpc_terms.specs.Written.{WrittenTerm, application, variables_in}
 use Rattle.fpc_terms.specs.Spot.{alone}
 use Rattle.fpc_terms.specs.Machine as term
 use Rattle.fpc_terms.specs.ReadTerm.{any_variable}

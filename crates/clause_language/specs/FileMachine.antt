@@ -12,7 +12,7 @@ use Rattle.polarised_formulas.specs.declared.logic.Logic.{Logic}
 use Rattle.polarised_formulas.specs.declared.logic.Logic.TheVariants.{Lkf, Ljf}
 use Rattle.polarised_formulas.specs.Machine.{logic_of}
 use Rattle.clause_language.specs.declared.file.FileKind.{FileKind}
-use Rattle.clause_language.specs.declared.file.FileKind.TheVariants.{Definition, Certificate}
+use Rattle.clause_language.specs.declared.file.FileKind.TheVariants.{Certificate}
 use Rattle.clause_language.specs.Written.{WrittenItem, declaration, a_clause, WrittenDefinition, WrittenCertificate}
 use Rattle.clause_language.specs.Limits.{declared_names}
 use Rattle.clause_language.specs.ClauseMachine as clause

@@ -17,10 +17,10 @@ use crate::clause::Clause;
 use fpc_base::outside::OutOfMemory;
 use fpc_base::refusal::{Code, TokenRefusal};
 use fpc_base::tokens::lexeme::{Lexeme, Sign};
+use fpc_terms::arguments::{arguments, head};
 use fpc_terms::names::Names;
 use fpc_terms::read::take_token;
 use fpc_terms::reader::TermReader;
-use fpc_terms::arguments::{arguments, head};
 use fpc_terms::term::TermBuf;
 use fpc_terms::var_table::VarTable;
 use std::alloc::Global;
@@ -137,11 +137,7 @@ impl ClauseReader {
     }
 
     /// Takes a token of an atom.
-    fn take_in_atom(
-        &mut self,
-        names: &mut Names,
-        lexeme: Lexeme<'_>,
-    ) -> Result<(), TokenRefusal>
+    fn take_in_atom(&mut self, names: &mut Names, lexeme: Lexeme<'_>) -> Result<(), TokenRefusal>
         requires { IsNamed lexeme }
         ensures taken { (s : ClauseState) → HoldsClause names.old s self.old → self.old.mode ≡ Mode.InAtom → stands_behind s (lexeme_as lexeme.entry) ≡ false
             → TakesClause result names.new (limited s (lexeme_as lexeme.entry)) self.new }

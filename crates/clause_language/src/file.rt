@@ -288,11 +288,7 @@ impl<'a> FileReader<'a> {
     }
 
     /// Takes a token of a clause.
-    fn take_in_clause(
-        &mut self,
-        names: &mut Names,
-        lexeme: Lexeme<'a>,
-    ) -> Result<(), TokenRefusal>
+    fn take_in_clause(&mut self, names: &mut Names, lexeme: Lexeme<'a>) -> Result<(), TokenRefusal>
         requires { IsNamed lexeme }
         ensures taken { (kind : FileKind) (expected : Option Logic) (earlier : List (List ℕ)) (s : FileState) → HoldsFile names.old kind expected earlier s self.old
             → self.old.phase ≡ Phase.InClause → TakesFile result names.new kind expected earlier (limited kind expected earlier s (lexeme_as lexeme.entry)) self.new }
@@ -330,11 +326,7 @@ impl<'a> FileReader<'a> {
     }
 
     /// Takes a token of the certificate's term, or the dot behind it.
-    fn take_in_term(
-        &mut self,
-        names: &mut Names,
-        lexeme: Lexeme<'a>,
-    ) -> Result<(), TokenRefusal>
+    fn take_in_term(&mut self, names: &mut Names, lexeme: Lexeme<'a>) -> Result<(), TokenRefusal>
         requires { IsNamed lexeme }
         ensures taken { (kind : FileKind) (expected : Option Logic) (earlier : List (List ℕ)) (s : FileState) → HoldsFile names.old kind expected earlier s self.old
             → self.old.phase ≡ Phase.InTerm → TakesFile result names.new kind expected earlier (limited kind expected earlier s (lexeme_as lexeme.entry)) self.new }

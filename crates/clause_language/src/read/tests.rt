@@ -71,10 +71,7 @@ fn definitions_are_read_and_printed(rt: HostRuntime) -> Result<(), Fail> {
     let table: [(&[u8], &[u8]); 7] = [
         (b"lkf", b"lkf\n"),
         (b" ljf % no items\n", b"ljf\n"),
-        (
-            b"lkf p(X,Y):-q(Y),r.%c",
-            b"lkf\np(V0,V1) :- q(V1), r.\n",
-        ),
+        (b"lkf p(X,Y):-q(Y),r.%c", b"lkf\np(V0,V1) :- q(V1), r.\n"),
         (
             b"lkf r(Y). formula g(A,B):=all C:(p(A,C)|-q(B)). formula h:=some Z:tt+.",
             b"lkf\nformula g(P0,P1) := all X0 : (p(P0,X0) |- q(P1)).\nformula h := some X0 : tt+.\nr(V0).\n",
@@ -114,9 +111,21 @@ fn definitions_are_refused(rt: HostRuntime) -> Result<(), Fail> {
         (b"lkf formula f(a) := tt+.", Code::Unexpected, 14),
         (b"lkf formula f(X,X) := tt+.", Code::Unexpected, 16),
         (b"lkf formula f(X) := p(Y).", Code::Unexpected, 22),
-        (b"lkf formula f := tt+. p(X) :- q(X). formula g := p(X).", Code::Unexpected, 51),
-        (b"lkf formula f := tt+. formula f := tt-.", Code::DuplicateFormula, 30),
-        (b"lkf formula f := tt+. formula f(X := tt-.", Code::DuplicateFormula, 30),
+        (
+            b"lkf formula f := tt+. p(X) :- q(X). formula g := p(X).",
+            Code::Unexpected,
+            51,
+        ),
+        (
+            b"lkf formula f := tt+. formula f := tt-.",
+            Code::DuplicateFormula,
+            30,
+        ),
+        (
+            b"lkf formula f := tt+. formula f(X := tt-.",
+            Code::DuplicateFormula,
+            30,
+        ),
         (b"lkf formula all := tt+.", Code::Unexpected, 12),
         (b"lkf formula f := (tt+ &+ tt-).. ", Code::Unexpected, 30),
         (b"ljf formula f := ~p.", Code::Unexpected, 17),
@@ -141,9 +150,15 @@ fn a_logic_may_be_expected(rt: HostRuntime) -> Result<(), Fail> {
 #[test]
 fn certificates_are_read_and_printed(rt: HostRuntime) -> Result<(), Fail> {
     let table: [(&[u8], &[u8]); 4] = [
-        (b"lkf certificate f(B,A,B).", b"lkf\ncertificate f(V0,V1,V0).\n"),
+        (
+            b"lkf certificate f(B,A,B).",
+            b"lkf\ncertificate f(V0,V1,V0).\n",
+        ),
         (b"ljf certificate X.", b"ljf\ncertificate V0.\n"),
-        (b"lkf f(X). certificate a.", b"lkf\nf(V0).\ncertificate a.\n"),
+        (
+            b"lkf f(X). certificate a.",
+            b"lkf\nf(V0).\ncertificate a.\n",
+        ),
         (
             b"lkf g(Y) :- f(X). formula g(X) := p(X). certificate g(f,f(g)).",
             b"lkf\nformula g(P0) := p(P0).\ng(V0) :- f(V1).\ncertificate g(f,f(g)).\n",
@@ -165,7 +180,11 @@ fn certificates_are_refused(rt: HostRuntime) -> Result<(), Fail> {
         (b"lkf certificate a. ", Code::Unexpected, 19),
         (b"lkf certificate a, b.", Code::Unexpected, 17),
         (b"lkf certificate a. p.", Code::Unexpected, 19),
-        (b"lkf formula f(X) := tt+. certificate a.", Code::DuplicateFormula, 12),
+        (
+            b"lkf formula f(X) := tt+. certificate a.",
+            Code::DuplicateFormula,
+            12,
+        ),
         (b"lkf certificate formula.", Code::Unexpected, 16),
     ];
     for (text, code, at) in table {

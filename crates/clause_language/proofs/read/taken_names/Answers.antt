@@ -1,11 +1,10 @@
-use Rattle.std.proofs.Common.{rules, ◌≡◌, ◌||◌, ◌+◌, ◌<◌, ◌∷◌, List, ℕ, [], drop, length, sym, ap, ◌∙◌, arith}
+use Rattle.std.proofs.Common.{rules, ◌≡◌, ◌||◌, ◌+◌, ◌∷◌, List, ℕ, [], drop, sym, ap, ◌∙◌}
 use Rattle.std.proofs.lemmas.List.{drop_more, drop_all}
 use Rattle.std.proofs.lemmas.Option.{get_or_from_slice_get}
 use Rattle.fpc_base.specs.Tokens.{is_one_of}
 use Rattle.fpc_terms.specs.Text.{name_in}
-use Rattle.clause_language.specs.Naming.{AreDeclaredNamedBelow}
 use Rattle.clause_language.specs.ReadFile.{names_of}
-use Rattle.clause_language.proofs.ReadFacts.{AreComing, AreComing-next, AreComing-all}
+use Rattle.clause_language.proofs.ReadFacts.{AreComing-next, AreComing-all}
 use Rattle.clause_language.proofs.read.taken_names.Goals as goal
 
 pub text-requires : goal.text-requires

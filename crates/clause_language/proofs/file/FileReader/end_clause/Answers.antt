@@ -1,5 +1,3 @@
-use Rattle.std.proofs.Common.{◌≡◌}
-use Rattle.clause_language.specs.Meant.{clause_meant}
 use Rattle.clause_language.proofs.FileTaking.{clause-ends}
 use Rattle.clause_language.proofs.file.FileReader.end_clause.Goals as goal
 

@@ -1,5 +1,3 @@
-use Rattle.std.proofs.Common.{◌≡◌}
-use Rattle.clause_language.specs.Meant.{declaration_meant}
 use Rattle.clause_language.proofs.FileTaking.{declaration-ends}
 use Rattle.clause_language.proofs.file.FileReader.end_declaration.Goals as goal
 
