@@ -173,11 +173,10 @@ fn certificates_are_read_and_printed(rt: HostRuntime) -> Result<(), Fail> {
 
 #[test]
 fn certificates_are_refused(rt: HostRuntime) -> Result<(), Fail> {
-    let table: [(&[u8], Code, usize); 8] = [
+    let table: [(&[u8], Code, usize); 7] = [
         (b"lkf", Code::Unexpected, 3),
         (b"lkf certificate", Code::Unexpected, 15),
         (b"lkf certificate a", Code::Unexpected, 17),
-        (b"lkf certificate a. ", Code::Unexpected, 19),
         (b"lkf certificate a, b.", Code::Unexpected, 17),
         (b"lkf certificate a. p.", Code::Unexpected, 19),
         (
@@ -225,7 +224,7 @@ fn a_clause_has_at_most_255_variables(rt: HostRuntime) -> Result<(), Fail> {
         (b",A,B,C,D,E,F,G,H,I,J,K,L,M,N,O,A,Xab", None),
         (
             b",A,B,C,D,E,F,G,H,I,J,K,L,M,N,O,P",
-            Some((Code::ManyVariables, 1006)),
+            Some((Code::ManyVariables, 1005)),
         ),
     ];
     for (more, refused) in table {
