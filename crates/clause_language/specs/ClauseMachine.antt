@@ -24,10 +24,12 @@ abbrev pub atom_of : WrittenTerm → Option WrittenAtom
 atom_of (application x args) = let a : WrittenAtom = record { text = x; args = args } in Some a
 atom_of _ = None
 
+-- the atom of a term, where there is one
 abbrev pub whole_in : Option WrittenTerm → Option WrittenAtom
 whole_in (Some w) = atom_of w
 whole_in None = None
 
+-- the atom that is being read, where the tokens so far are one
 abbrev pub whole_atom : term.TermState → Option WrittenAtom
 whole_atom t = whole_in (term.whole_of t)
 

@@ -15,3 +15,4 @@ pub mod Order
 pub mod EachName
 pub mod Printable
 pub mod RoundTrip
+pub mod OneAnswer

@@ -56,7 +56,7 @@ pub enum Phase {
 }
 
 /// A definition or certificate file that is being read, token by token. Each token takes constant time, but for the look-ups of names and variables,
-/// and the end of an item, which takes time linear in the item. Memory is linear in what was read.
+/// and the end of an atom or of an item, which takes time linear in it. Memory is linear in what was read.
 #[derive(Drop)]
 pub struct FileReader<'a> {
     alloc: Global,

@@ -1,5 +1,16 @@
 //! Laws over the definitions of files and their texts, each the contract of a function with nothing to run.
 ghost use Rattle.clause_language.specs.RoundTrip.{CertificateIsReadBack, CertificateTextIsRead, DefinitionIsReadBack, DefinitionTextIsRead, ReadCertificateIsPrintable, ReadDefinitionIsPrintable};
+ghost use Rattle.clause_language.specs.OneAnswer.{CertificateIsNotBoth, CertificateIsReadOnce, CertificateIsRefusedOnce, DefinitionIsNotBoth, DefinitionIsReadOnce, DefinitionIsRefusedOnce};
+
+/// A file is read as one definition or certificate, or it is refused as one in one way, and not both.
+pub fn one_answer()
+    ensures definition_read { DefinitionIsReadOnce }
+    ensures definition_refused { DefinitionIsRefusedOnce }
+    ensures definition_both { DefinitionIsNotBoth }
+    ensures certificate_read { CertificateIsReadOnce }
+    ensures certificate_refused { CertificateIsRefusedOnce }
+    ensures certificate_both { CertificateIsNotBoth }
+{}
 
 /// A definition or a certificate within the limits is read from its printed form, and what was read is within the limits, so it is read
 /// back from its printed form.

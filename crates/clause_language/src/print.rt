@@ -23,7 +23,7 @@ use polarised_formulas::print::words::logic_word;
 use std::alloc::Global;
 
 /// The text of a definition: a line for the logic, and one for each declared formula and then for each clause. The variable k of a
-/// clause is `V` with k. Time and memory are linear in the text's size.
+/// clause is `V` with k; in a clause that was read, k counts the variables as they first come. Time and memory are linear in the text's size.
 pub fn print_definition(
     alloc: Global,
     names: &Names,
