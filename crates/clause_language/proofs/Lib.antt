@@ -31,3 +31,4 @@ pub mod FileScan
 pub mod NamesSaid
 pub mod ItemsMeant
 pub mod RoundTrip
+pub mod ReadAs

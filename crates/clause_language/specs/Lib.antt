@@ -16,3 +16,4 @@ pub mod EachName
 pub mod Printable
 pub mod RoundTrip
 pub mod OneAnswer
+pub mod ReadAs

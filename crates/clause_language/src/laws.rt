@@ -1,6 +1,7 @@
 //! Laws over the definitions of files and their texts, each the contract of a function with nothing to run.
 ghost use Rattle.clause_language.specs.RoundTrip.{CertificateIsReadBack, CertificateTextIsRead, DefinitionIsReadBack, DefinitionTextIsRead, ReadCertificateIsPrintable, ReadDefinitionIsPrintable};
 ghost use Rattle.clause_language.specs.OneAnswer.{CertificateIsNotBoth, CertificateIsReadOnce, CertificateIsRefusedOnce, DefinitionIsNotBoth, DefinitionIsReadOnce, DefinitionIsRefusedOnce};
+ghost use Rattle.clause_language.specs.ReadAs.{ReadCertificateIsAs, ReadDefinitionIsAs};
 
 /// A file is read as one definition or certificate, or it is refused as one in one way, and not both.
 pub fn one_answer()
@@ -13,8 +14,10 @@ pub fn one_answer()
 {}
 
 /// A definition or a certificate within the limits is read from its printed form, and what was read is within the limits, so it is read
-/// back from its printed form.
+/// back from its printed form. What the readers say of a file is what these laws ask for.
 pub fn files_are_read_back()
+    ensures definition_read { ReadDefinitionIsAs }
+    ensures certificate_read { ReadCertificateIsAs }
     ensures definition_printed { DefinitionTextIsRead }
     ensures definition_printable { ReadDefinitionIsPrintable }
     ensures definition_back { DefinitionIsReadBack }

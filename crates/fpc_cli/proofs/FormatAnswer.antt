@@ -1,17 +1,14 @@
 -- The contents of a file have one printed form or one refusal.
-use Rattle.std.proofs.Common.{◌≡◌, ◌≢◌, ℕ, ◌≤◌, List, [], length, Option, None, refl, sym, ap, ◌∙◌, subst, inl, inr}
-use Rattle.fpc_base.specs.Lexeme.{Item, items_of}
+use Rattle.std.proofs.Common.{◌≡◌, ◌≢◌, ℕ, List, [], length, Option, None, refl, sym, ap, ◌∙◌, subst, inl, inr}
+use Rattle.fpc_base.specs.Lexeme.{items_of}
 use Rattle.fpc_base.specs.Outside.{Content, missing, Rose}
 use Rattle.fpc_base.specs.declared.refusal.Refusal.{Refusal}
 use Rattle.fpc_terms.specs.Name.{index_in}
 use Rattle.polarised_formulas.specs.declared.logic.Logic.{Logic}
-use Rattle.polarised_formulas.specs.Formula.{Formula}
 use Rattle.polarised_formulas.specs.Printing.{AllNamesBelow}
 use Rattle.polarised_formulas.specs.Text.{problem_text}
 use Rattle.polarised_formulas.specs.Written.{WrittenProblem, formula_meant}
 use Rattle.polarised_formulas.proofs.ProblemReading.{problem-read_once, problem-refused_once, problem-not_both}
-use Rattle.clause_language.specs.declared.certificate.Certificate as certificate
-use Rattle.clause_language.specs.declared.definition.Definition as definition
 use Rattle.clause_language.specs.Meant.{definition_meant, certificate_meant}
 use Rattle.clause_language.specs.Naming.{IsDefinitionNamedBelow, IsCertificateNamedBelow}
 use Rattle.clause_language.specs.Text.{definition_text, certificate_text}
@@ -22,7 +19,6 @@ use Rattle.fpc_cli.specs.declared.command.Form.{Form}
 use Rattle.fpc_cli.specs.declared.command.Form.TheVariants.{Problem, Definition, Certificate}
 use Rattle.fpc_cli.specs.Command.{format, role_of}
 use Rattle.fpc_cli.specs.Format.{IsProblemPrinted, IsDefinitionPrinted, IsCertificatePrinted, IsPrintedForm, IsPrintedFrom, RefusesForm, IsFormRefused}
-use Rattle.fpc_cli.specs.Held.{MayHold}
 use Rattle.fpc_cli.specs.OneAnswer.{IsKnown, IsFound}
 use Rattle.fpc_cli.specs.Run.{IsCaused}
 use Rattle.fpc_cli.proofs.Contents.{same-bytes, small-or-large}

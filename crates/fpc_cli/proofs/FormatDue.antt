@@ -1,5 +1,5 @@
 -- The answer to `format` is the one that the contents of the file call for.
-use Rattle.std.proofs.Common.{◌≡◌, ◌≢◌, ℕ, ◌≤◌, List, [], length, None, refl, sym, ◌∙◌, subst, inl, inr}
+use Rattle.std.proofs.Common.{◌≡◌, ℕ, ◌≤◌, List, [], length, None, refl, sym, ◌∙◌, subst, inl, inr}
 use Rattle.fpc_base.specs.Lexeme.{items_of}
 use Rattle.fpc_base.specs.Outside.{Content, missing, holds}
 use Rattle.fpc_base.specs.declared.refusal.Refusal.{Refusal}
@@ -10,11 +10,11 @@ use Rattle.fpc_cli.specs.declared.command.Form.{Form}
 use Rattle.fpc_cli.specs.declared.command.Form.TheVariants.{Problem, Definition, Certificate}
 use Rattle.fpc_cli.specs.Command.{role_of}
 use Rattle.fpc_cli.specs.DueFormat.{IsFormatGiven, IsWholeFile, IsItsPrintedForm, PrintedFormIsGiven, FormatRefusalIsGiven, FormatMissingIsGiven}
-use Rattle.fpc_cli.specs.Format.{IsPrintedForm, IsPrintedFrom, RefusesForm, IsFormRefused}
+use Rattle.fpc_cli.specs.Format.{IsPrintedForm, RefusesForm, IsFormRefused}
 use Rattle.fpc_cli.specs.Held.{MayHold}
 use Rattle.fpc_cli.specs.OneAnswer.{IsKnown}
 use Rattle.fpc_cli.proofs.Contents.{same-bytes, small-or-large}
-use Rattle.fpc_cli.proofs.FormatAnswer.{View, prints, refuses, no_file, view, one, form-once, printed-or-refused}
+use Rattle.fpc_cli.proofs.FormatAnswer.{View, prints, refuses, no_file, view, one, form-once}
 use Rattle.clause_language.proofs.FileReading.{definition-not_both, certificate-not_both}
 
 -- what is whole isn't refused

@@ -2,7 +2,7 @@
 use Rattle.std.proofs.Common.{◌∷◌, ◌≡◌, ◌≢◌, not, ◌⊎◌, ℕ, ◌≤◌, List, [], ◌++◌, length, Option, refl, sym, ap, ◌∙◌, subst, arith, inl, inr, true}
 use Rattle.std.proofs.lemmas.Bool.{and_parts}
 use Rattle.fpc_base.specs.Lexeme.{items_of}
-use Rattle.fpc_base.specs.Outside.{Content, untold, missing, holds, Rose}
+use Rattle.fpc_base.specs.Outside.{Content, missing, holds, Rose}
 use Rattle.fpc_base.specs.Tokens.{is_word, is_one_of, keywords, HasForm}
 use Rattle.fpc_terms.specs.Name.{Agrees}
 use Rattle.fpc_terms.specs.Written.{WrittenTerm, WrittenArgs, variable_word, application, no_words, words}

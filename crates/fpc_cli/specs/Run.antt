@@ -1,5 +1,5 @@
 -- Why the program answers as it does, and what it writes.
-use Rattle.std.specs.Prelude.{◌≡◌, ◌≢◌, ◌⊎◌, ℕ, ◌+◌, ◌<◌, ◌≤◌, List, [], ◌∷◌, ◌++◌, length, Option, Some, None, Result, Ok, Err}
+use Rattle.std.specs.Prelude.{◌≡◌, ◌≢◌, ◌⊎◌, ℕ, ◌+◌, ◌≤◌, List, [], ◌∷◌, ◌++◌, length, Option, Some, None, Result, Ok, Err}
 use Rattle.fpc_base.specs.Lexeme.{Item, says, items_of}
 use Rattle.fpc_base.specs.Reading.{ReadsAll, RefusesAll}
 use Rattle.fpc_base.specs.Outside.{Content, missing, Rose, Opens, Adds, AddsPrefix}

@@ -1,3 +1,4 @@
+use Rattle.clause_language.proofs.ReadAs.{definition-read_as, certificate-read_as}
 use Rattle.clause_language.proofs.RoundTrip.{definition-text_read, definition-printable, definition-read_back, certificate-text_read, certificate-printable, certificate-read_back}
 use Rattle.clause_language.proofs.laws.files_are_read_back.Goals as goal
 
@@ -18,3 +19,9 @@ returns-clause-certificate_printable c = certificate-printable
 
 pub returns-clause-certificate_back : goal.returns-clause-certificate_back
 returns-clause-certificate_back c = certificate-read_back
+
+pub returns-clause-definition_read : goal.returns-clause-definition_read
+returns-clause-definition_read c = definition-read_as
+
+pub returns-clause-certificate_read : goal.returns-clause-certificate_read
+returns-clause-certificate_read c = certificate-read_as
