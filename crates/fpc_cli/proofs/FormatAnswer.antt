@@ -119,7 +119,7 @@ module _ (form : Form) (file : List ℕ) (content : List ℕ → Content) (told 
       → IsCaused (format form file) content o o' left before now a → View a
   view o o' left before now calm (Accepted n) found (there, same, opened, judged, proved) = absurd judged
   view o o' left before now calm (Rejected k) found (there, same, opened, judged) = absurd judged
-  view o o' left before now calm (Formatted text) found (same, (there, opened, printed)) = prints printed there
+  view o o' left before now calm (Formatted text) found (same, (there, opened, printed, taken, ended)) = prints printed there
   view o o' left before now calm (Refused role r) found (there, same, opened, refusal) = rw there.0 (refuses refusal.1 there.1)
   view o o' left before now calm Usage found (e, same, none) = let never : ⊥ = cc in absurd never
   view o o' left before now calm ReadFault found (asked, inl (rose, nothing)) = absurd (calm rose)

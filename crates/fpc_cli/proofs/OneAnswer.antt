@@ -152,7 +152,7 @@ module _ (numbers : DontMatter) (p e : List ℕ) (content : List ℕ → Content
   view o o' left before now calm (Accepted n) found (there, same, opened, judged, proved) = accepts judged there.1
   view o o' left before now calm (Rejected k) found (there, same, opened, judged) = rejects judged there.1
   view o o' left before now calm (Refused Explicit r) found (there, same, opened, judged) = refuses judged there.1
-  view o o' left before now calm (Refused Problem r) found (there, same, opened, refusal) = no_problem refusal there
+  view o o' left before now calm (Refused Problem r) found (there, same, opened, (refusal, taken)) = no_problem refusal there
   view o o' left before now calm (Refused Definition r) found (there, same, opened, refusal) = absurd there
   view o o' left before now calm (Refused Certificate r) found (there, same, opened, refusal) = absurd there
   view o o' left before now calm (Refused Atom r) found (there, same, opened, refusal) = absurd there

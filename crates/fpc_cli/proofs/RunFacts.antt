@@ -138,7 +138,7 @@ verify-some p e content old new left before now OutOfMemory opened = opened
 format-some : (kind : Form) (file : List ℕ) (content : List ℕ → Content) (old new : Option (List (List ℕ))) (left : Option (List ℕ)) (before now : ℕ) (a : Answer) → IsCaused (format kind file) content old new left before now a → HasOpenedSome (format kind file) old new
 format-some kind file content old new left before now (Accepted n) (there, same, opened, judged, proved) = absurd judged
 format-some kind file content old new left before now (Rejected k) (there, same, opened, judged) = absurd judged
-format-some kind file content old new left before now (Formatted text) (same, (there, opened, printed)) = inr opened
+format-some kind file content old new left before now (Formatted text) (same, (there, opened, printed, taken, ended)) = inr opened
 format-some kind file content old new left before now (Refused role r) (there, same, opened, refusal) = inr opened.1
 format-some kind file content old new left before now Usage (is, same, none) = inl none
 format-some kind file content old new left before now ReadFault (is, inl (rose, h)) = h

@@ -2,7 +2,7 @@
 use Rattle.std.specs.Prelude.{◌≡◌, ◌≢◌, ◌⊎◌, ℕ, ◌+◌, ◌≤◌, List, [], ◌∷◌, ◌++◌, length, Option, Some, None, Result, Ok, Err}
 use Rattle.fpc_base.specs.Lexeme.{Item, says, items_of}
 use Rattle.fpc_base.specs.Reading.{ReadsAll, RefusesAll}
-use Rattle.fpc_base.specs.Outside.{Content, missing, Rose, Opens, Adds, AddsPrefix}
+use Rattle.fpc_base.specs.Outside.{Content, missing, Rose, IsAtEnd, Opens, Adds, AddsPrefix}
 use Rattle.fpc_base.specs.declared.refusal.Refusal.{Refusal}
 use Rattle.fpc_base.specs.declared.refusal.Code.TheVariants.{NotBuilt, TooLarge}
 use Rattle.fpc_terms.specs.Name.{Agrees, AreDifferent}
@@ -27,7 +27,7 @@ use Rattle.fpc_cli.specs.declared.answer.Role.{Role}
 use Rattle.fpc_cli.specs.declared.answer.Role.TheVariants.{Problem, Explicit}
 use Rattle.fpc_cli.specs.declared.command.Form.{Form}
 use Rattle.fpc_cli.specs.Command.{Asked, verify, format, usage, role_of}
-pub use Rattle.fpc_cli.specs.Held.{MayHold, MayBeTooLarge}
+pub use Rattle.fpc_cli.specs.Held.{MayHold, MayBeTooLarge, IsTakenOf}
 use Rattle.fpc_cli.specs.Format.{IsPrintedFrom, IsFormRefused}
 use Rattle.fpc_cli.specs.Answer.{answer_text, status_of}
 
@@ -134,23 +134,25 @@ IsProblemRefused content refusal =
     ⊎ (((bytes : List ℕ) × (MayHold content bytes × (length bytes ≤ 16777216) × RefusesAll IsProblem ProblemLimits (length bytes) [] (items_of bytes) refusal))
     ⊎ IsNotBuilt content refusal)
 
--- a refusal of a file of `verify`: of a problem as its grammar tells it, of a certificate as it is judged
+-- a refusal of a file of `verify`: of a problem as its grammar tells it, and at most one byte more was taken than a source file may have; of a certificate as it is judged
 abbrev pub IsVerifyRefusal : Role → (problem explicit : Content) → Option (List ℕ) → Refusal → Type 0
-IsVerifyRefusal Problem problem explicit left refusal = IsProblemRefused problem refusal
+IsVerifyRefusal Problem problem explicit left refusal = IsProblemRefused problem refusal × IsTakenOf 16777217 problem left
 IsVerifyRefusal Explicit problem explicit left refusal = IsVerified problem explicit left (Refuses refusal)
 IsVerifyRefusal _ problem explicit left refusal = ⊥
 
--- a refusal of a file of the command
+-- a refusal of a file of the command; of the one of `format` at most one byte more was taken than a source file may have
 abbrev pub IsRefusalOf : Role → Asked → (List ℕ → Content) → Option (List ℕ) → Refusal → Type 0
 IsRefusalOf role (verify problem explicit) content left refusal = IsVerifyRefusal role (content problem) (content explicit) left refusal
-IsRefusalOf role (format form file) content left refusal = (role ≡ role_of form) × IsFormRefused form (content file) refusal
+IsRefusalOf role (format form file) content left refusal = (role ≡ role_of form) × IsFormRefused form (content file) refusal × IsTakenOf 16777217 (content file) left
 IsRefusalOf role usage content left refusal = ⊥
 
--- the text is the printed form of the file that is to be printed, which is not told as missing, and was opened once, and no other
-abbrev pub IsFormatted : Asked → (List ℕ → Content) → Option (List (List ℕ)) → Option (List (List ℕ)) → List ℕ → Type 0
-IsFormatted (verify problem explicit) content old new text = ⊥
-IsFormatted (format form file) content old new text = (content file ≢ missing) × Opens old file new × IsPrintedFrom form (content file) text
-IsFormatted usage content old new text = ⊥
+-- The text is the printed form of the file that is to be printed, which is not told as missing, and was opened once, and no other. It was read to its end, and at most one byte more was taken than a
+-- source file may have.
+abbrev pub IsFormatted : Asked → (List ℕ → Content) → Option (List (List ℕ)) → Option (List (List ℕ)) → Option (List ℕ) → List ℕ → Type 0
+IsFormatted (verify problem explicit) content old new left text = ⊥
+IsFormatted (format form file) content old new left text =
+    (content file ≢ missing) × Opens old file new × IsPrintedFrom form (content file) text × IsTakenOf 16777217 (content file) left × IsAtEnd left
+IsFormatted usage content old new left text = ⊥
 
 -- some closed goal of LKF has a spelling of so many steps, and is derivable
 abbrev pub IsProved : Asked → (List ℕ → Content) → ℕ → Type 0
@@ -176,19 +178,22 @@ abbrev pub IsCaused : Asked → (List ℕ → Content) → Option (List (List �
 IsCaused asked content old new left before now (Accepted n) =
     HasFilesTo Explicit asked content × (now ≡ before) × HasOpenedTo Explicit asked old new × HasJudgment asked content left (Accepts n) × IsProved asked content n
 IsCaused asked content old new left before now (Rejected k) = HasFilesTo Explicit asked content × (now ≡ before) × HasOpenedTo Explicit asked old new × HasJudgment asked content left (Rejects k)
-IsCaused asked content old new left before now (Formatted text) = (now ≡ before) × IsFormatted asked content old new text
+IsCaused asked content old new left before now (Formatted text) = (now ≡ before) × IsFormatted asked content old new left text
 IsCaused asked content old new left before now (Refused role refusal) = HasFilesTo role asked content × (now ≡ before) × HasOpenedTo role asked old new × IsRefusalOf role asked content left refusal
 IsCaused asked content old new left before now Usage = (asked ≡ usage) × (now ≡ before) × (new ≡ old)
 IsCaused asked content old new left before now ReadFault = (asked ≢ usage) × ((Rose before now × ShowsNothing asked content old new left) ⊎ MissesOne asked content old new)
 IsCaused asked content old new left before now OutOfMemory = HasOpenedSome asked old new
 
--- why the bytes of a file could not be had: an opening or a read failed, it is missing or too large, or memory ran out
-abbrev pub IsUnread : Form → (file : List ℕ) → (List ℕ → Content) → Option (List (List ℕ)) → Option (List (List ℕ)) → ℕ → ℕ → Answer → Type 0
-IsUnread form file content old new before now (Refused role refusal) =
+-- Why the bytes of a file could not be had: an opening or a read failed, it is missing or too large, or memory ran out. Of a file that was opened at most one byte more was taken than a source file
+-- may have.
+abbrev pub IsUnread : Form → (file : List ℕ) → (List ℕ → Content) → Option (List (List ℕ)) → Option (List (List ℕ)) → Option (List ℕ) → ℕ → ℕ → Answer → Type 0
+IsUnread form file content old new left before now (Refused role refusal) =
     (role ≡ role_of form) × (content file ≢ missing) × (now ≡ before) × Opens old file new × (refusal ≡ record { code = TooLarge; at = 16777216 }) × MayBeTooLarge (content file)
-IsUnread form file content old new before now ReadFault = (Rose before now × ((new ≡ old) ⊎ Opens old file new)) ⊎ ((content file ≡ missing) × (new ≡ old))
-IsUnread form file content old new before now OutOfMemory = Opens old file new
-IsUnread form file content old new before now _ = ⊥
+    × IsTakenOf 16777217 (content file) left
+IsUnread form file content old new left before now ReadFault =
+    (Rose before now × ((new ≡ old) ⊎ (Opens old file new × IsTakenOf 16777217 (content file) left))) ⊎ ((content file ≡ missing) × (new ≡ old))
+IsUnread form file content old new left before now OutOfMemory = Opens old file new × IsTakenOf 16777217 (content file) left
+IsUnread form file content old new left before now _ = ⊥
 
 -- the sink took the whole text of the answer, or its count rose and it took a part from the front
 abbrev pub IsWritten : Answer → ℕ → ℕ → ℕ → Option (List ℕ) → Option (List ℕ) → Type 0
