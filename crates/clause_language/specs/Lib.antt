@@ -17,3 +17,4 @@ pub mod Printable
 pub mod RoundTrip
 pub mod OneAnswer
 pub mod ReadAs
+pub mod LeastModel

@@ -15,3 +15,4 @@ pub mod TokenNames
 pub mod NamesBelow
 pub mod SameTerms
 pub mod AddingFacts
+pub mod LevelFacts

@@ -1,5 +1,7 @@
 pub mod Name
 pub mod Term
+pub mod Open
+pub mod Equality
 pub mod Scope
 pub mod Cells
 pub mod Text

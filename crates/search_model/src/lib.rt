@@ -1,0 +1,2 @@
+//! The search that gives definition and certificate files their meaning.
+#![tactic(auto)]
