@@ -18,3 +18,5 @@ pub mod RoundTrip
 pub mod OneAnswer
 pub mod ReadAs
 pub mod LeastModel
+pub mod Program
+pub mod ReadAtom

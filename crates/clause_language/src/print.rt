@@ -161,7 +161,7 @@ fn push_clause(
     requires { IsClauseNamedBelow (length names.now) clause.now }
     ensures { OnOk result (out.new.items ≡ out.old.items ++ clause_before names.now clause.now []) }
 {
-    push_atom(alloc, names, &clause.head, out)?;
+    print_atom(alloc, names, &clause.head, out)?;
     push_body(alloc, names, clause.body.items(), out)?;
     Ok(out.extend_from_slice(b".\n")?)
 }
@@ -180,7 +180,7 @@ fn push_body(
         None => Ok(()),
         Some((first, rest)) => {
             out.extend_from_slice(b" :- ")?;
-            push_atom(alloc, names, first, out)?;
+            print_atom(alloc, names, first, out)?;
             push_more_atoms(alloc, names, rest, out)
         }
     }
@@ -198,13 +198,13 @@ fn push_more_atoms(
 {
     for atom in atoms {
         out.extend_from_slice(b", ")?;
-        push_atom(alloc, names, atom, out)?;
+        print_atom(alloc, names, atom, out)?;
     }
     Ok(())
 }
 
-/// Puts the text of an atom behind other bytes.
-fn push_atom(
+/// Puts the text of an atom behind other bytes. On a refusal `out` may have some of it. Time and memory are linear in the text's size.
+pub fn print_atom(
     alloc: Global,
     names: &Names,
     atom: &Atom,

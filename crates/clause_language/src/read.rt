@@ -26,7 +26,7 @@ use polarised_formulas::logic::Logic;
 use std::alloc::Global;
 
 /// How many bytes a file may have.
-const MOST_BYTES: usize = 16_777_216;
+pub(crate) const MOST_BYTES: usize = 16_777_216;
 
 /// Reads a definition: the word of its logic, and then declared formulas and clauses in any order. Where a logic is expected, the word of the other one is refused as
 /// WrongCalculus. Names get their numbers in the table, also where the file is refused. Memory is linear in the number of bytes, and so is the time, but for the
@@ -91,7 +91,7 @@ pub fn read_certificate(
     }
 }
 
-fn too_large() -> ParseRefusal
+pub(crate) fn too_large() -> ParseRefusal
     ensures { result ≡ ParseRefusal.Refused (record { code = TooLarge; at = 16777216 }) }
 {
     ParseRefusal::Refused(Refusal {
