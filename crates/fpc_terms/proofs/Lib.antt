@@ -15,4 +15,5 @@ pub mod TokenNames
 pub mod NamesBelow
 pub mod SameTerms
 pub mod AddingFacts
+pub mod PutFacts
 pub mod LevelFacts
