@@ -16,4 +16,5 @@ pub mod NamesBelow
 pub mod SameTerms
 pub mod AddingFacts
 pub mod PutFacts
+pub mod EqualityFacts
 pub mod LevelFacts
