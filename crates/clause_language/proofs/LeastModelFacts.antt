@@ -1,5 +1,5 @@
 -- Facts of the least model, and of atoms with terms for their variables.
-use Rattle.std.proofs.Common.{◌≡◌, ℕ, ◌<◌, Bool, ◌&&◌, nat_eq, List, [], ◌∷◌, map, length, refl, ap, ap₂, sym, subst}
+use Rattle.std.proofs.Common.{◌≡◌, ℕ, ◌<◌, ◌&&◌, nat_eq, List, [], ◌∷◌, map, length, refl, ap, ap₂, sym, subst}
 use Rattle.std.specs.List.{All}
 use Rattle.std.proofs.lemmas.List.{length-map}
 use Rattle.std.proofs.lemmas.List.Elements.{All-map, All-weaker, All-contains}
@@ -55,10 +55,11 @@ module _ (clauses : List Clause) where
       by_root : (t : Trees) → AreGrown clauses t → roots t ≡ a ∷ [] → (atoms : List Atom) × IsInstance clauses a atoms × AllHold clauses atoms
       by_root no_trees grown are = absurd (cc)
       by_root (tree root children others) grown are =
-          let first : root ≡ a = cc in
-          (roots children,
-          subst (λ b. IsInstance clauses b (roots children)) first grown.0,
-          record { trees = children; are_grown = grown.1; roots_are = refl })
+          let first : root ≡ a = cc in (
+            roots children,
+            subst (λ b. IsInstance clauses b (roots children)) first grown.0,
+            record { trees = children; are_grown = grown.1; roots_are = refl },
+          )
 
   -- the arguments of an atom that holds are ground
   pub holds_ground : (a : Atom) → AreOpenClauses clauses → Holds clauses a → All IsGround a.arguments
@@ -68,8 +69,8 @@ module _ (clauses : List Clause) where
       by_instance i =
           let is_open : IsOpenClause i.clause = All-contains IsOpenClause clauses i.clause are_open i.is_one in
           subst (λ (b : Atom). All IsGround b.arguments) (sym i.head_is)
-              (All-map IsGround (put i.terms) i.clause.head.arguments
-                (All-weaker (IsOpen i.clause.variables) (λ t. IsGround (put i.terms t)) (ground_put i.clause.variables i.terms (λ n lt. i.ground n)) i.clause.head.arguments is_open.head))
+          (All-map IsGround (put i.terms) i.clause.head.arguments
+          (All-weaker (IsOpen i.clause.variables) (λ t. IsGround (put i.terms t)) (ground_put i.clause.variables i.terms (λ n lt. i.ground n)) i.clause.head.arguments is_open.head))
 
 -- atoms with a term for each variable
 module _ (s r : ℕ → Term) where
@@ -94,4 +95,4 @@ fits_put_head s a head = ap (λ n. nat_eq a.name head.name && nat_eq (length a.a
 pub open_atoms_put : (j k : ℕ) (r : ℕ → Term) → ((n : ℕ) → n < j → IsOpen k (r n)) → (atoms : List Atom) → AreOpenAtoms j atoms → AreOpenAtoms k (map (put_atom r) atoms)
 open_atoms_put j k r are_open atoms h =
     All-map (λ a. AreOpen k a.arguments) (put_atom r) atoms
-        (All-weaker (λ a. AreOpen j a.arguments) (λ a. AreOpen k (put_atom r a).arguments) (λ a. opens_put j k r are_open a.arguments) atoms h)
+    (All-weaker (λ a. AreOpen j a.arguments) (λ a. AreOpen k (put_atom r a).arguments) (λ a. opens_put j k r are_open a.arguments) atoms h)
