@@ -15,4 +15,6 @@ pub mod TokenNames
 pub mod NamesBelow
 pub mod SameTerms
 pub mod AddingFacts
+pub mod PutFacts
+pub mod EqualityFacts
 pub mod LevelFacts
