@@ -52,7 +52,8 @@ module _ (S R : Type 0) (answer : S → Option R) (step : S → S) where
     by_answer (Some q) a = settled_now 0 s q r u a e
     by_answer None a = let f : spent ≡ ended r u = sym (run_spent s a) ∙ e in cc
   settled (suc n) s r u e = by_answer (answer s) refl (settled n (step s)) where
-    by_answer : (q : Option R) → answer s ≡ q → ((r : R) (u : ℕ) → run answer step n (step s) ≡ ended r u → IsSettled n (step s) r u) → IsSettled (suc n) s r u
+    by_answer : (q : Option R) → answer s ≡ q → ((r : R) (u : ℕ) → run answer step n (step s) ≡ ended r u → IsSettled n (step s) r u)
+        → IsSettled (suc n) s r u
     by_answer (Some q) a h = settled_now (suc n) s q r u a e
     by_answer None a h =
         let p = one_more_ended (run answer step n (step s)) r u (sym (run_going n s a) ∙ e) in
