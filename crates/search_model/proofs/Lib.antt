@@ -1,2 +1,3 @@
 pub mod Fine
 pub mod RunFacts
+pub mod SpelledFacts
