@@ -1,3 +1,4 @@
 pub mod Fine
 pub mod RunFacts
 pub mod SpelledFacts
+pub mod BindFacts
