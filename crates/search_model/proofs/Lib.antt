@@ -2,3 +2,4 @@ pub mod Fine
 pub mod RunFacts
 pub mod SpelledFacts
 pub mod BindFacts
+pub mod ExtendFacts
