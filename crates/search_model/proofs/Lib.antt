@@ -3,3 +3,4 @@ pub mod RunFacts
 pub mod SpelledFacts
 pub mod BindFacts
 pub mod ExtendFacts
+pub mod Sound
