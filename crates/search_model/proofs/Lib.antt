@@ -4,3 +4,4 @@ pub mod SpelledFacts
 pub mod BindFacts
 pub mod ExtendFacts
 pub mod Sound
+pub mod SolveFacts
