@@ -1,1 +1,7 @@
 pub mod Fine
+pub mod RunFacts
+pub mod SpelledFacts
+pub mod BindFacts
+pub mod ExtendFacts
+pub mod Sound
+pub mod SolveFacts
