@@ -5,3 +5,4 @@ pub mod BindFacts
 pub mod ExtendFacts
 pub mod Sound
 pub mod SolveFacts
+pub mod Lowering
