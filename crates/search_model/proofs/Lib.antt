@@ -6,3 +6,4 @@ pub mod ExtendFacts
 pub mod Sound
 pub mod SolveFacts
 pub mod Lowering
+pub mod Covered
