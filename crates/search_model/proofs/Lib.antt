@@ -7,3 +7,4 @@ pub mod Sound
 pub mod SolveFacts
 pub mod Lowering
 pub mod Covered
+pub mod CoveredGoals
