@@ -8,3 +8,4 @@ pub mod SolveFacts
 pub mod Lowering
 pub mod Covered
 pub mod CoveredGoals
+pub mod Complete
