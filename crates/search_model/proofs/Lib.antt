@@ -9,3 +9,4 @@ pub mod Lowering
 pub mod Covered
 pub mod CoveredGoals
 pub mod Complete
+pub mod SolveComplete
