@@ -5,3 +5,8 @@ pub mod BindFacts
 pub mod ExtendFacts
 pub mod Sound
 pub mod SolveFacts
+pub mod Lowering
+pub mod Covered
+pub mod CoveredGoals
+pub mod Complete
+pub mod SolveComplete
