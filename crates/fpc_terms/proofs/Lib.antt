@@ -17,3 +17,4 @@ pub mod SameTerms
 pub mod AddingFacts
 pub mod LevelFacts
 pub mod RoomFacts
+pub mod SubstitutionFacts
