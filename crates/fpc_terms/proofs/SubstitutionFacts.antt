@@ -1,9 +1,8 @@
 -- Terms put for variables, cell by cell.
-use Rattle.std.proofs.Common.{◌≡◌, ℕ, List, [], ◌∷◌, ◌++◌, refl, ap, sym, ◌∙◌}
+use Rattle.std.proofs.Common.{◌≡◌, ℕ, List, [], refl, ap}
 use Rattle.std.specs.List.{flat_map}
 use Rattle.std.specs.Prelude.{suc}
 use Rattle.fpc_terms.specs.declared.cell.Cell.{Cell}
-use Rattle.fpc_terms.specs.declared.cell.Cell.TheVariants.{App}
 use Rattle.fpc_terms.specs.Term.{Term, Args, eigen, bound, variable, app, no_args, arg, count, cells_before, all_before, cells_of, term_of, put, put_all, IsOneTerm, term_of-cells_of}
 use Rattle.fpc_terms.specs.Substitution.{cell_put}
 use Rattle.fpc_terms.proofs.ArgumentFacts.{cells_before-append}
