@@ -30,12 +30,7 @@ fn terms_are_put_for_a_variable(rt: HostRuntime) -> Result<(), Fail> {
     let f = names.intern(b"f")?;
     let term = [Cell::App(f, 2), Cell::Var(1), Cell::Var(0)];
     let by = [Cell::App(f, 1), Cell::Var(1)];
-    let new = [
-        Cell::App(f, 2),
-        Cell::App(f, 1),
-        Cell::Var(1),
-        Cell::Var(0),
-    ];
+    let new = [Cell::App(f, 2), Cell::App(f, 1), Cell::Var(1), Cell::Var(0)];
     check_with_term(&rt, alloc, &term, &by, &new)?;
     check_with_term(&rt, alloc, &[Cell::Var(1)], &by, &by)?;
     check_with_term(&rt, alloc, &[Cell::Bound(1)], &by, &[Cell::Bound(1)])?;
