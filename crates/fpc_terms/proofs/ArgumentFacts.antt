@@ -54,7 +54,7 @@ mutual
   sum-all_before (arg t ts) cs = omega (arith, sum-cells_before t (all_before ts cs), sum-all_before ts cs)
 
 mutual
-  cells_before-append : (t : Term) (cs ds : List Cell) → cells_before t cs ++ ds ≡ cells_before t (cs ++ ds)
+  pub cells_before-append : (t : Term) (cs ds : List Cell) → cells_before t cs ++ ds ≡ cells_before t (cs ++ ds)
   cells_before-append (eigen n) cs ds = refl
   cells_before-append (bound k) cs ds = refl
   cells_before-append (variable n) cs ds = refl

@@ -18,3 +18,5 @@ pub mod AddingFacts
 pub mod PutFacts
 pub mod EqualityFacts
 pub mod LevelFacts
+pub mod RoomFacts
+pub mod SubstitutionFacts

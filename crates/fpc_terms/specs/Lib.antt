@@ -4,6 +4,7 @@ pub mod Open
 pub mod Equality
 pub mod Scope
 pub mod Cells
+pub mod Substitution
 pub mod Text
 pub mod Written
 pub mod Spot

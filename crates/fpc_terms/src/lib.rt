@@ -11,6 +11,7 @@ pub mod print;
 pub mod read;
 pub mod reader;
 pub mod scope;
+pub mod substitution;
 pub mod term;
 mod texts;
 pub mod var_table;
@@ -21,5 +22,9 @@ pub use name::{NameId, is_name};
 pub use names::Names;
 pub use print::print_term;
 pub use read::read_term;
+pub use substitution::{
+    all_with_constant, all_with_later_variables, all_with_term, with_constant,
+    with_later_variables, with_term,
+};
 pub use term::TermBuf;
 pub use var_table::VarTable;

@@ -36,6 +36,14 @@ impl TermBuf {
         })
     }
 
+    /// The term of these cells. It takes no memory.
+    pub(crate) fn from_vec(cells: Vec<Cell>) -> TermBuf
+        requires { IsOneTerm cells.items }
+        ensures { result ≡ term_of cells.items }
+    {
+        TermBuf { cells }
+    }
+
     /// The cells in prefix order.
     pub fn cells(&self) -> &[Cell]
         ensures { result.now ≡ cells_of self.now }
