@@ -138,8 +138,8 @@ fn take_variable(
     }
 }
 
-/// A formula, read token by token. Each token takes constant time, but for the look-ups: that of a name, and that of a
-/// variable, which is linear in the number of quantifiers around it.
+/// A formula, read token by token. Each token takes constant time, but for the look-ups of names and of variables, and
+/// for the quantifiers that end: each of these takes logarithmic time.
 #[derive(Drop)]
 pub struct FormulaReader<'a> {
     alloc: Global,
