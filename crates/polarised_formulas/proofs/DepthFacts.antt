@@ -1,5 +1,5 @@
 -- A map of the depths at which variables are bound, with one more and with one less.
-use Rattle.std.proofs.Common.{◌≡◌, ℕ, suc, ◌+◌, ◌-◌, ◌<◌, ◌^◌, Bool, true, false, Option, Some, None, List, [], ◌∷◌, ◌++◌, length, map, reverse, if◌then◌else◌, refl, sym, ap, ◌∙◌, inl, inr, arith}
+use Rattle.std.proofs.Common.{◌≡◌, ℕ, suc, ◌+◌, ◌-◌, ◌<◌, ◌^◌, Bool, true, false, Option, Some, None, List, [], ◌∷◌, ◌++◌, length, map, reverse, Bor, if◌then◌else◌, refl, sym, ap, ◌∙◌, inl, inr, arith}
 use Rattle.std.specs.BTreeMap.{BTreeMap, UpdatesBy}
 use Rattle.std.specs.Cmp.Lexicographic.{slice_cmp, bytes_decides}
 use Rattle.std.specs.Ordering.{nat_cmp}
@@ -10,12 +10,14 @@ use Rattle.std.proofs.lemmas.Map.Text.{btree_map_updates_str}
 use Rattle.fpc_base.specs.Tokens.{is_one_of}
 use Rattle.fpc_terms.specs.Name.{index_in, place_in}
 use Rattle.polarised_formulas.specs.BoundDepths.{depth_in, depth_of, Depths}
-use denote.Ref.{Bor}
 
 bytes_eq-turned : (x y : List ℕ) (b : Bool) → bytes_eq x y ≡ b → bytes_eq y x ≡ b
 bytes_eq-turned x y true e = (bytes_decides y x).1 (sym ((bytes_decides x y).0 e))
 bytes_eq-turned x y false e =
-    elim (cases_Bool (bytes_eq y x)) [ inl i ↦ absurd (let j : bytes_eq x y ≡ true = (bytes_decides x y).1 (sym ((bytes_decides y x).0 i)) in cc) | inr i ↦ i ]
+    elim (cases_Bool (bytes_eq y x)) [
+      | inl i ↦ absurd (let j : bytes_eq x y ≡ true = (bytes_decides x y).1 (sym ((bytes_decides y x).0 i)) in cc)
+      | inr i ↦ i
+    ]
 
 -- what the depth of a text says of its place
 abbrev IsPlaced : List (List ℕ) → List ℕ → Option ℕ → Type 0
@@ -56,27 +58,33 @@ depth_in-head text texts = let e : bytes_eq text text ≡ true = (bytes_decides 
 
 module _ (m n : BTreeMap (Bor (List ℕ)) ℕ) (texts : List (List ℕ)) (covered : List (Option ℕ)) (text : List ℕ) where
   -- one more variable
-  pub Depths-push : (depth : ℕ) (outer : Option ℕ) → Depths m texts covered → length texts + 1 < 2 ^ 32 → depth ≡ length texts → outer ≡ depth_of m text → UpdatesBy (λ x y. slice_cmp nat_cmp x.now y.now) (λ k. slice_cmp nat_cmp text k.now) m n (Some depth) → Depths n (text ∷ texts) (outer ∷ covered)
-  Depths-push depth outer old room at before updates = record {
-    innermost = λ other. let now = btree_map_updates_str text m n (Some depth) updates other in let was = old.innermost other in cc;
-    outside = (let was = old.innermost text in let others = old.outside in cc);
-    few = omega arith;
-  }
+  module _ (depth : ℕ) (before : Option ℕ) (old : Depths m texts covered) (room : length texts + 1 < 2 ^ 32) (count : depth ≡ length texts) (had : before ≡ depth_of m text) where
+    pub Depths-push : UpdatesBy (λ x y. slice_cmp nat_cmp x.now y.now) (λ k. slice_cmp nat_cmp text k.now) m n (Some depth) → Depths n (text ∷ texts) (before ∷ covered)
+    Depths-push updates = record {
+      innermost = λ other. let now = btree_map_updates_str text m n (Some depth) updates other in let was = old.innermost other in cc;
+      outside = (let was = old.innermost text in let others = old.outside in cc);
+      few = omega arith;
+    }
 
-  -- the innermost variable goes, and its name gets the depth that was covered
+  -- the innermost variable goes, and its name gets the depth that it covered
   module _ (depth : Option ℕ) (old : Depths m (text ∷ texts) (depth ∷ covered)) (restored : (other : List ℕ) → depth_of n other ≡ (if bytes_eq text other then depth else depth_of m other)) where
-    restored-depth : (other : List ℕ) → depth_of n other ≡ depth_in texts other
-    restored-depth other =
+    depth_of-restored : (other : List ℕ) → depth_of n other ≡ depth_in texts other
+    depth_of-restored other =
         let outside = old.outside in
         let inner = old.innermost other in
-        let r = restored other in
+        let now = restored other in
         elim (cases_Bool (bytes_eq text other)) [
-          | inl e ↦ (let same : text ≡ other = (bytes_decides text other).0 e in let d : depth_of n other ≡ depth = rw e at r in let c : depth ≡ depth_in texts text = cc in d ∙ c ∙ ap (depth_in texts) same)
-          | inr e ↦ (let d : depth_of n other ≡ depth_of m other = rw e at r in let i : depth_of m other ≡ depth_in texts other = rw e at inner in d ∙ i)
+          | inl e ↦ (let same : text ≡ other = (bytes_decides text other).0 e in
+              let c : depth ≡ depth_in texts text = cc in
+              let d : depth_of n other ≡ depth = rw e at now in
+              d ∙ c ∙ ap (depth_in texts) same)
+          | inr e ↦ (let d : depth_of n other ≡ depth_of m other = rw e at now in
+              let i : depth_of m other ≡ depth_in texts other = rw e at inner in
+              d ∙ i)
         ]
 
     pub Depths-pop : Depths n texts covered
-    Depths-pop = let outside = old.outside in record { innermost = restored-depth; outside = cc; few = (let few = old.few in omega (arith, few)) }
+    Depths-pop = let outside = old.outside in let few = old.few in record { innermost = depth_of-restored; outside = cc; few = omega (arith, few) }
 
 -- the last of some items comes first, where they are turned
 pub turned-push : {B C : Type 0} (f : B → C) (before after : List B) (x : B) → after ≡ before ++ x ∷ [] → reverse (map f after) ≡ f x ∷ reverse (map f before)

@@ -4,7 +4,7 @@ use Rattle.std.specs.Str.{bytes_eq}
 use Rattle.std.specs.BTreeMap.{BTreeMap, get_by}
 use Rattle.std.specs.Cmp.Lexicographic.{slice_cmp}
 use Rattle.std.specs.Ordering.{nat_cmp}
-use denote.Ref.{Bor}
+use Rattle.std.specs.Borrow.{Bor}
 
 -- how many texts stand outside of the innermost place of a text, if it is one of them
 abbrev pub depth_in : List (List ℕ) → List ℕ → Option ℕ
@@ -20,9 +20,10 @@ depths_outside (x ∷ xs) = depth_in xs x ∷ depths_outside xs
 abbrev pub depth_of : BTreeMap (Bor (List ℕ)) ℕ → List ℕ → Option ℕ
 depth_of depths text = get_by (λ k. slice_cmp nat_cmp text k.now) depths
 
--- what ties a map to the texts, and to the depths that each of them covers
+-- what ties a map to the texts, and to the depth that each of them covers
 pub record Depths (depths : BTreeMap (Bor (List ℕ)) ℕ) (texts : List (List ℕ)) (covered : List (Option ℕ)) : Type 0 where
   -- the map has for each text its depth, and nothing else
   pub innermost : (text : List ℕ) → depth_of depths text ≡ depth_in texts text
+  -- a text covers the depth that it had before it was bound
   pub outside : covered ≡ depths_outside texts
   pub few : length texts < 2 ^ 32

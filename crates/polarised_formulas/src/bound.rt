@@ -50,7 +50,7 @@ impl<'a> BoundNames<'a> {
         }
     }
 
-    /// Binds one more variable, the innermost. Time is logarithmic in the number of those that are there.
+    /// Binds a variable, which is then the innermost. Time is logarithmic in the number of those that were bound.
     pub(crate) fn push(&mut self, text: &'a [u8]) -> Result<(), OutOfMemory>
         ensures ok { OnOk result (self.new ≡ text.now ∷ self.old) }
         ensures err { OnErr result (self.new ≡ self.old) }
@@ -66,7 +66,7 @@ impl<'a> BoundNames<'a> {
     }
 
     /// How many quantifiers stand between the innermost one that binds this variable and the place. Time is logarithmic
-    /// in their number.
+    /// in the number of variables that are bound there.
     pub(crate) fn find(&self, text: &[u8]) -> Option<u32>
         ensures { result ≡ place_in self.now text.now }
     {

@@ -12,5 +12,7 @@ invariant_of-self-2 c =
     let count : c.len-depth.result ≡ length texts = grind (arith, common_steps, length-map items (λ x. x.text.now), length-reverse (map (λ x. x.text.now) items)) in
     let few : length texts < 2 ^ 32 = c.self.invariant.few in
     let room : length texts + 1 < 2 ^ 32 = omega arith in
-    rw (turned-push (λ x. x.text.now) items c.push.new.self.items _ pushed, turned-push (λ x. x.covered) items c.push.new.self.items _ pushed)
-    (Depths-push c.self.inside.depths c.insert.new.self texts _ c.args.text.now c.len-depth.result c.in_ok-covered.covered c.self.invariant room count c.in_ok-covered.ensures.old c.in_ok-covered.ensures.updates)
+    let had = c.in_ok-covered.ensures.old in
+    let updates = c.in_ok-covered.ensures.updates in
+    let depths = Depths-push c.self.inside.depths c.insert.new.self texts _ c.args.text.now c.len-depth.result c.in_ok-covered.covered c.self.invariant room count had updates in
+    rw (turned-push (λ x. x.text.now) items c.push.new.self.items _ pushed, turned-push (λ x. x.covered) items c.push.new.self.items _ pushed) depths
