@@ -99,8 +99,8 @@ fn joiner(logic: Logic, sign: Sign) -> Option<Joiner>
     }
 }
 
-/// Takes a token of the arguments of an atom. A variable is looked up from the innermost quantifier outwards, and then
-/// among the parameters.
+/// Takes a token of the arguments of an atom. A variable is looked up among those that quantifiers bind, the innermost
+/// first, and then among the parameters.
 fn take_argument(
     terms: &mut TermReader,
     names: &mut Names,
