@@ -30,7 +30,7 @@ pub(crate) const MOST_BYTES: usize = 16_777_216;
 
 /// Reads a definition: the word of its logic, and then declared formulas and clauses in any order. Where a logic is expected, the word of the other one is refused as
 /// WrongCalculus. Names get their numbers in the table, also where the file is refused. Memory is linear in the number of bytes, and so is the time, but for the
-/// look-ups: a name or a variable of a clause takes logarithmic time, a variable of a declared formula time linear in the quantifiers around it.
+/// look-ups of names and of variables, which take logarithmic time.
 pub fn read_definition(
     alloc: Global,
     names: &mut Names,

@@ -1,4 +1,5 @@
 pub mod BoundFacts
+pub mod DepthFacts
 pub mod ReaderFacts
 pub mod NodeFacts
 pub mod DualFacts

@@ -9,6 +9,7 @@ pub mod Written
 pub mod Place
 pub mod Machine
 pub mod Bound
+pub mod BoundDepths
 pub mod Holding
 pub mod ReadFormula
 pub mod WrittenOf

@@ -99,8 +99,8 @@ fn joiner(logic: Logic, sign: Sign) -> Option<Joiner>
     }
 }
 
-/// Takes a token of the arguments of an atom. A variable is looked up from the innermost quantifier outwards, and then
-/// among the parameters.
+/// Takes a token of the arguments of an atom. A variable is looked up among those that quantifiers bind, the innermost
+/// first, and then among the parameters.
 fn take_argument(
     terms: &mut TermReader,
     names: &mut Names,
@@ -138,8 +138,8 @@ fn take_variable(
     }
 }
 
-/// A formula, read token by token. Each token takes constant time, but for the look-ups: that of a name, and that of a
-/// variable, which is linear in the number of quantifiers around it.
+/// A formula, read token by token. Each token takes constant time, but for the look-ups of names and of variables, and
+/// for the quantifiers that end: each of these takes logarithmic time.
 #[derive(Drop)]
 pub struct FormulaReader<'a> {
     alloc: Global,

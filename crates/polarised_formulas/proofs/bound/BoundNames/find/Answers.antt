@@ -1,29 +1,30 @@
-use Rattle.std.proofs.Common.{sym, ◌∙◌, arith, reverse, map, take, ◌∷◌, ◌-◌, ◌<◌, ◌≤◌, length}
-use Rattle.std.specs.Cmp.Lexicographic.{bytes_decides}
-use Rattle.polarised_formulas.proofs.BoundFacts.{Passed, Passed-found, Passed-next, last-first, length-turned}
+use Rattle.std.proofs.lemmas.Grind.{common_steps}
+use Rattle.std.proofs.Common.{◌≡◌, ◌<◌, Some, length, map, reverse, sym, ◌∙◌, arith}
+use Rattle.std.proofs.lemmas.List.{length-map, length-reverse}
+use Rattle.polarised_formulas.specs.BoundDepths.{depth_in}
+use Rattle.polarised_formulas.proofs.DepthFacts.{place_in-unbound, place_in-bound, depth-below}
 use Rattle.polarised_formulas.proofs.bound.BoundNames.find.Goals as goal
 
-pub returns-then-eq : goal.returns-then-eq
-returns-then-eq c =
-    let items = c.self.inside.items.items in
-    let p : 0 < c.loop-left.left = grind arith in
-    let l : c.loop-left.left ≤ length items = c.loop-left.invariant.within in
-    let e = last-first (λ x. x.now) items c.loop-left.left c.index.result.now p l c.index.ensures in
-    let h : Passed c.args.text.now c.args.self.now (c.index.result.now.now ∷ reverse (map (λ x. x.now) (take (c.loop-left.left - 1) items))) = rw e at c.loop-left.invariant.passed in
-    let f = Passed-found c.args.text.now c.args.self.now c.index.result.now.now (reverse (map (λ x. x.now) (take (c.loop-left.left - 1) items))) h ((bytes_decides c.index.result.now.now c.args.text.now).0 (sym c.eq.ensures ∙ c.if-eq.true)) in
-    let n = length-turned (λ x. x.now) items (c.loop-left.left - 1) (omega (arith, l)) in
-    rw c.loop-left.invariant.counted (rw n at f)
+module _ (c : goal.After-len) where
+  found : Some c.in_ok-depth.depth ≡ depth_in (reverse (map (λ x. x.text.now) c.self.inside.levels.items)) c.args.text.now
+  found = sym c.in_ok-depth.was ∙ c.copied.ensures ∙ c.get.ensures.value ∙ c.self.invariant.innermost c.args.text.now
 
-pub loop-left-preserved : goal.loop-left-preserved
-loop-left-preserved c =
-    let items = c.self.inside.items.items in
-    let p : 0 < c.loop-left.left = grind arith in
-    let l : c.loop-left.left ≤ length items = c.loop-left.invariant.within in
-    let e = last-first (λ x. x.now) items c.loop-left.left c.index.result.now p l c.index.ensures in
-    let h : Passed c.args.text.now c.args.self.now (c.index.result.now.now ∷ reverse (map (λ x. x.now) (take (c.loop-left.left - 1) items))) = rw e at c.loop-left.invariant.passed in
-    record {
-      counted = c.loop-left.invariant.counted;
-      within = omega (arith, l);
-      passed = Passed-next c.args.text.now c.args.self.now c.index.result.now.now (reverse (map (λ x. x.now) (take (c.loop-left.left - 1) items))) h
-          (λ i. let b = (bytes_decides c.index.result.now.now c.args.text.now).1 i in let a = c.eq.ensures in let n = c.if-eq.false in cc);
-    }
+  counted : c.len.result ≡ length (reverse (map (λ x. x.text.now) c.self.inside.levels.items))
+  counted = grind (arith, common_steps, length-map c.self.inside.levels.items (λ x. x.text.now), length-reverse (map (λ x. x.text.now) c.self.inside.levels.items))
+
+  below : c.in_ok-depth.depth < c.len.result
+  below = rw counted (depth-below _ _ _ found)
+
+pub returns-in_err-depth : goal.returns-in_err-depth
+returns-in_err-depth c =
+    let unbound = sym c.in_err-depth.was ∙ c.copied.ensures ∙ c.get.ensures.value ∙ c.self.invariant.innermost c.args.text.now in
+    rw (← c.self.view_is) (c.from_residual.ensures ∙ place_in-unbound (reverse (map (λ x. x.text.now) c.self.inside.levels.items)) c.args.text.now unbound)
+
+pub overflow_sub-result : goal.overflow_sub-result
+overflow_sub-result c = omega (arith, below c)
+
+pub overflow_sub-result-2 : goal.overflow_sub-result-2
+overflow_sub-result-2 c = omega (arith, below c)
+
+pub returns : goal.returns
+returns c = rw (counted c, ← c.self.view_is) (place_in-bound _ _ _ (found c))
