@@ -32,3 +32,5 @@ pub mod NamesSaid
 pub mod ItemsMeant
 pub mod RoundTrip
 pub mod ReadAs
+pub mod AtomReading
+pub mod AtomFacts
