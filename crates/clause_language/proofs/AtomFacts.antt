@@ -1,15 +1,14 @@
 -- An atom that was read has its names in the table, is open, and has at most 255 arguments.
 use Rattle.std.proofs.Common.{◌≡◌, inl, inr, ℕ, suc, ◌≤◌, ◌<◌, false, List, [], ◌∷◌, ◌++◌, length, refl, ap, sym, subst, ◌∙◌, arith, append-nil, append_assoc, None, Result, Ok, Err, IfOk}
 use Rattle.std.proofs.lemmas.List.Elements.{All-nil, All-cons}
-use Rattle.std.specs.List.{All}
 use Rattle.fpc_base.specs.declared.refusal.Code.{Code}
 use Rattle.fpc_base.specs.declared.refusal.ParseRefusal.{ParseRefusal}
 use Rattle.fpc_base.specs.declared.tokens.lexeme.Sign.TheVariants as sign
-use Rattle.fpc_base.specs.Lexeme.{Lexeme, a_name, a_sign, Item}
+use Rattle.fpc_base.specs.Lexeme.{Lexeme, a_sign, Item}
 use Rattle.fpc_base.specs.Reading.{IsTaken, ReadsAll}
 use Rattle.fpc_base.specs.Reading as reading
-use Rattle.fpc_terms.specs.Machine.{TermState, wants, named, has, stuck, step, run, IsLive, is_full, within, limited, behind}
-use Rattle.fpc_terms.specs.Name.{Agrees, AreDifferent, index_in}
+use Rattle.fpc_terms.specs.Machine.{TermState, wants, named, has, stuck, step, IsLive, is_full, within, limited}
+use Rattle.fpc_terms.specs.Name.{AreDifferent, index_in}
 use Rattle.fpc_terms.specs.Open.{IsOpen, AreOpen}
 use Rattle.fpc_terms.specs.ReadTerm.{any_variable, numbered}
 use Rattle.fpc_terms.specs.Spot.{Spot, alone, in_term}

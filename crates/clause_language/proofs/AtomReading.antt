@@ -1,7 +1,5 @@
 -- How an atom by itself is read: behind its name as a term is.
-use Rattle.std.proofs.Common.{◌≡◌, ◌⊎◌, inl, inr, ℕ, suc, ◌+◌, ◌≤◌, Bool, true, false, List, [], ◌∷◌, ◌++◌, length, refl, ap, sym, subst, ◌∙◌, arith, append-nil, append_assoc, Option, Some, None, Result, Ok, Err, IfOk, IfErr, OnOk, is_some, Bor}
-use Rattle.std.specs.List.{All}
-use Rattle.fpc_base.specs.declared.outside.OutOfMemory.{OutOfMemory as OutOfMemoryError}
+use Rattle.std.proofs.Common.{◌≡◌, inl, inr, ℕ, Bool, true, false, List, [], ◌∷◌, ◌++◌, length, refl, ap, sym, subst, ◌∙◌, Option, Some, None, Result, Ok, Err, IfOk, IfErr, OnOk, is_some, Bor}
 use Rattle.fpc_base.specs.declared.refusal.Code.{Code}
 use Rattle.fpc_base.specs.declared.refusal.Code.TheVariants.{Unexpected}
 use Rattle.fpc_base.specs.declared.refusal.ParseRefusal.{ParseRefusal}
@@ -9,40 +7,29 @@ use Rattle.fpc_base.specs.declared.refusal.ParseRefusal.TheVariants as parse
 use Rattle.fpc_base.specs.declared.refusal.Refusal.{Refusal}
 use Rattle.fpc_base.specs.declared.refusal.TokenRefusal.{TokenRefusal}
 use Rattle.fpc_base.specs.declared.refusal.TokenRefusal.TheVariants.{Refused, OutOfMemory}
-use Rattle.fpc_base.specs.declared.tokens.lexeme.Sign.TheVariants as sign
 use Rattle.fpc_base.specs.declared.tokens.lexeme.Lexeme as code
-use Rattle.fpc_base.specs.Lexeme.{Lexeme, lexeme_as, a_name, a_variable, a_number, a_sign, unused, Item, says, fault}
+use Rattle.fpc_base.specs.Lexeme.{Lexeme, lexeme_as, a_name, a_variable, Item, says, fault}
 use Rattle.fpc_base.specs.Reading.{Begins, IsTaken, IsRefused, ReadsAll, RefusesAll}
 use Rattle.fpc_base.specs.Reading as reading
 use Rattle.fpc_base.specs.Refusal.{placed}
 use Rattle.fpc_terms.specs.Holding.{Holds}
-use Rattle.fpc_terms.specs.Machine.{TermState, wants, named, has, stuck, step, run, IsLive, whole_of, is_full, is_too_many, within, limited, behind}
-use Rattle.fpc_terms.specs.Name.{Agrees, AreDifferent, index_in}
-use Rattle.fpc_terms.specs.Open.{IsOpen, AreOpen}
+use Rattle.fpc_terms.specs.Machine.{TermState, wants, run, IsLive, whole_of, limited}
+use Rattle.fpc_terms.specs.Name.{AreDifferent, index_in}
 use Rattle.fpc_terms.specs.ReadTerm.{any_variable, numbered, HoldsFor, TakesFor}
-use Rattle.fpc_terms.specs.Spot.{Spot, alone, in_term}
-use Rattle.fpc_terms.specs.Term.{Term, Args, no_args, arg, terms_in, EachArg, Never, Always}
-use Rattle.fpc_terms.specs.Written.{WrittenTerm, WrittenArgs, variable_word, application, no_words, words, IsTerm, args_tokens, more_tokens, args_meant, variables_in}
+use Rattle.fpc_terms.specs.Spot.{alone}
+use Rattle.fpc_terms.specs.Term.{Term}
+use Rattle.fpc_terms.specs.Written.{WrittenTerm, variable_word, application, no_words, IsTerm, args_tokens, variables_in}
 use Rattle.fpc_terms.proofs.AnyTerm.{any-args, IsTermJudged, term-judged}
 use Rattle.fpc_terms.proofs.ReadFacts.{Agrees-index_in, own}
-use Rattle.fpc_terms.proofs.ScopeFacts.{EachArg-weaker}
-use Rattle.fpc_terms.proofs.TermLaws.{IsBehind, more-behind}
 use Rattle.fpc_terms.proofs.TermReading.{whole-is, is-whole, live-begins, begins-live, run-one, variables_in-append}
-use Rattle.polarised_formulas.proofs.Small.{words_count}
 use Rattle.clause_language.specs.declared.atom.Atom.{Atom}
 use Rattle.clause_language.specs.declared.single_atom.AtomReader.{AtomReader}
 use Rattle.clause_language.specs.HoldingAtom.{IsFront, HoldsAtom, TakesAtom, AtomOf, IsAtomEnd, AtomIsTaken}
 use Rattle.clause_language.specs.HoldingClause.{IsAtomOf}
 use Rattle.clause_language.specs.Meant.{atom_meant}
-use Rattle.clause_language.specs.Naming.{IsAtomNamedBelow}
-use Rattle.clause_language.specs.Printable.{Below}
-use Rattle.clause_language.specs.Program.{HasFewArguments}
 use Rattle.clause_language.specs.ReadAtom.{IsAtom, AtomLimits, atom_variables, AtomIsRead, IsAtomRefusal}
-use Rattle.clause_language.specs.Written.{WrittenAtom, atom_tokens}
+use Rattle.clause_language.specs.Written.{WrittenAtom}
 use Rattle.clause_language.specs.ClauseMachine.{whole_atom, whole_in}
-use Rattle.clause_language.proofs.FileNames.{atom-below}
-use Rattle.clause_language.proofs.TermPassing.{Embeds, passed-term, passed-more}
-use Rattle.clause_language.proofs.VariableOrder.{texts_to, texts_to_all, variables_in-args, ordered-whole_args, below-args}
 
 -- the state of the machine of terms behind the tokens
 abbrev pub term_behind : List Lexeme → TermState

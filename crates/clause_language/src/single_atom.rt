@@ -56,11 +56,7 @@ pub fn read_atom(
 }
 
 /// Reads the tokens of a text, whatever its size.
-fn read_tokens(
-    alloc: Global,
-    names: &mut Names,
-    bytes: &[u8],
-) -> Result<AtomReader, ParseRefusal>
+fn read_tokens(alloc: Global, names: &mut Names, bytes: &[u8]) -> Result<AtomReader, ParseRefusal>
     ensures ok { IfOk result (AtomIsTaken (length bytes.now) (items_of bytes.now) [] names.new) }
     ensures err { IfErr result (IsAtomRefusal (items_of bytes.now) (length bytes.now)) }
     ensures names { Grows names.old names.new }

@@ -3,7 +3,6 @@ use Rattle.fpc_base.specs.Lexeme.{says, lexeme_as, items_left, items_of, item_of
 use Rattle.fpc_terms.specs.Adding.{AddsTaken}
 use Rattle.fpc_terms.proofs.AddingFacts.{AddsTaken-start, AddsTaken-next, AddsTaken-refused, AddsTaken-all}
 use Rattle.fpc_terms.proofs.TokenNames.{named-from-form}
-use Rattle.clause_language.specs.HoldingAtom.{AtomIsTaken}
 use Rattle.clause_language.proofs.AtomReading.{taken-start, taken-next, taken-refused, taken-fault}
 use Rattle.clause_language.proofs.single_atom.read_tokens.Goals as goal
 
