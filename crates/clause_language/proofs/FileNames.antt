@@ -43,7 +43,7 @@ module _ (names : List (List ℕ)) (d : AreDifferent names) where
   IsTold meant = (number : List ℕ → ℕ) → Agrees number names → meant number ≡ meant (index_in names)
 
   module _ (numbers : List ℕ → ℕ) where
-    atom-below : (w : WrittenAtom) → IsTold (λ number. atom_meant number numbers w) → IsAtomNamedBelow (length names) (atom_meant (index_in names) numbers w)
+    pub atom-below : (w : WrittenAtom) → IsTold (λ number. atom_meant number numbers w) → IsAtomNamedBelow (length names) (atom_meant (index_in names) numbers w)
     atom-below w h = (
       number-below names w.text d (λ number a. ap (λ (x : Atom). x.name) (h number a)),
       terms-below (length names) (args_meant (index_in names) (numbered numbers) w.args)

@@ -33,3 +33,5 @@ pub mod ItemsMeant
 pub mod RoundTrip
 pub mod ReadAs
 pub mod LeastModelFacts
+pub mod AtomReading
+pub mod AtomFacts

@@ -127,7 +127,7 @@ module _ (most : Option ℕ) (P : List (List ℕ) → TermState → List Lexeme 
         let later = passed-more y [] t ts s (texts_to t vs) rest (omega arith) first.1 first.2 in
         (omega (arith, later.1), (first.0, later.0), later.2, later.3)
 
-    passed-more : (y : List ℕ) (ds : List WrittenTerm) (u : WrittenTerm) (ts : WrittenArgs) (s : Spot) (vs : List (List ℕ)) (rest : List Lexeme)
+    pub passed-more : (y : List ℕ) (ds : List WrittenTerm) (u : WrittenTerm) (ts : WrittenArgs) (s : Spot) (vs : List (List ℕ)) (rest : List Lexeme)
         → length ds < 255 → IsAtMost most (length vs) → P vs (has u (in_term y ds s)) (more_tokens ts rest)
         → AreSmall ts × (suc (length ds) + words_count ts ≤ 255) × IsAtMost most (length (texts_to_all ts vs))
         × P (texts_to_all ts vs) (has (application y (args_with ds (words u ts))) s) rest

@@ -243,7 +243,7 @@ impl ClauseReader {
 }
 
 /// The atom that the reader of terms holds, where it is whole.
-fn finish_atom(alloc: Global, terms: &mut TermReader) -> Result<Atom, OutOfMemory>
+pub(crate) fn finish_atom(alloc: Global, terms: &mut TermReader) -> Result<Atom, OutOfMemory>
     ensures { IfOk result (IsAtomOf terms.old) }
 {
     match terms.finish(alloc)? {

@@ -394,8 +394,8 @@ impl<'a> FileReader<'a> {
     }
 }
 
-/// The refusal of a file that ends too early, after so many bytes.
-fn unfinished(length: usize) -> ParseRefusal
+/// The refusal of a text that ends too early, after so many bytes.
+pub(crate) fn unfinished(length: usize) -> ParseRefusal
     ensures { result ≡ ParseRefusal.Refused (record { code = Unexpected; at = length }) }
 {
     ParseRefusal::Refused(Refusal {
