@@ -1,2 +1,5 @@
 pub mod Fine
 pub mod SameTermParts
+pub mod SameSearches
+pub mod Renaming
+pub mod NamesKept
