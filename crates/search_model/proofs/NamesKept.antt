@@ -65,7 +65,7 @@ module _ (n : ℕ) where
   atom-named h = (h.names.1, terms-named h.terms)
 
 -- the atom that was found has names below n, where the clauses, the question and the constant for variables that are left have
-pub solved_named : (n : ℕ) {clauses : List Clause} {budget variables any units : ℕ} {a : Atom} {found : Alternative Nothing Nothing} → AreClausesNamedBelow n clauses → IsAtomNamedBelow n a → any < n
+pub solved_named : (n : ℕ) (clauses : List Clause) (budget : ℕ) (a : Atom) (variables any units : ℕ) (found : Alternative Nothing Nothing) → AreClausesNamedBelow n clauses → IsAtomNamedBelow n a → any < n
     → solving clauses budget a variables ≡ ended (accepted found) units → IsAtomNamedBelow n (solved_atom any a found)
-solved_named n {clauses = clauses} {any = any} {a = a} {found = found} h k s e =
-    atom-named n (solved-same (refl, s) (atom-kept n a k) (endings_tell (one_below n) (clauses-kept n clauses h) (atom-kept n a k) e e).0)
+solved_named n clauses budget a variables any units found h k s e =
+    atom-named n (solved-same any any (refl, s) (atom-kept n a k) (endings_tell (one_below n) budget variables (clauses-kept n clauses h) (atom-kept n a k) e e).0)

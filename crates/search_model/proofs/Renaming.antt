@@ -17,8 +17,8 @@ use Rattle.search_model.proofs.SameSearches.{SameEnding, same_ended, same_spent,
 
 module _ {S : ℕ → ℕ → Type 0} where
   -- the atom that was found
-  pub solved-same : {m n : ℕ} {a b : Atom} {f g : Alternative Nothing Nothing} → S m n → SameAtom S a b → SameAlternative S f g → SameAtom S (solved_atom m a f) (solved_atom n b g)
-  solved-same {m = m} {n = n} s h (same_alternative gs emitted spelled ts levels) =
+  pub solved-same : (m n : ℕ) {a b : Atom} {f g : Alternative Nothing Nothing} → S m n → SameAtom S a b → SameAlternative S f g → SameAtom S (solved_atom m a f) (solved_atom n b g)
+  solved-same m n s h (same_alternative gs emitted spelled ts levels) =
       record { names = h.names; terms = map_put-same (constant m) (constant n) (constant-same s) ts }
 
   -- a list as arguments
@@ -39,9 +39,9 @@ tells_the_same (same_ended same_rejected units) = refl
 tells_the_same same_spent = tt
 
 -- what is known of the endings of two searches
-pub endings_tell : {S : ℕ → ℕ → Type 0} (one : (f g m n : ℕ) → S f m → S g n → nat_eq f g ≡ nat_eq m n) {cs ds : List Clause} {a b : Atom} {budget variables : ℕ} {e d : Ending (Answer Nothing Nothing)}
+pub endings_tell : {S : ℕ → ℕ → Type 0} (one : (f g m n : ℕ) → S f m → S g n → nat_eq f g ≡ nat_eq m n) {cs ds : List Clause} {a b : Atom} (budget variables : ℕ) {e d : Ending (Answer Nothing Nothing)}
     → SameList (SameClause S) cs ds → SameAtom S a b → solving cs budget a variables ≡ e → solving ds budget b variables ≡ d → TellsTheSame S e d
-endings_tell {S = S} one {cs = cs} {ds = ds} {a = a} {b = b} {budget = budget} {variables = variables} {e = e} {d = d} ss h p q =
+endings_tell {S = S} one {cs = cs} {ds = ds} {a = a} {b = b} budget variables {e = e} {d = d} ss h p q =
     subst (λ w. TellsTheSame S w d) p (subst (λ w. TellsTheSame S (solving cs budget a variables) w) q (tells_the_same (solving-same one ss h budget variables)))
 
 module _ (names others : List (List ℕ)) where
