@@ -3,3 +3,4 @@ pub mod SameTermParts
 pub mod SameSearches
 pub mod Renaming
 pub mod NamesKept
+pub mod OneSolution

@@ -44,25 +44,26 @@ pub endings_tell : {S : ℕ → ℕ → Type 0} (one : (f g m n : ℕ) → S f m
 endings_tell {S = S} one {cs = cs} {ds = ds} {a = a} {b = b} budget variables {e = e} {d = d} ss h p q =
     subst (λ w. TellsTheSame S w d) p (subst (λ w. TellsTheSame S (solving cs budget a variables) w) q (tells_the_same (solving-same one ss h budget variables)))
 
-module _ (names others : List (List ℕ)) where
+-- related names are the same, each by its own table
+module _ (names others : List (List ℕ)) {S : ℕ → ℕ → Type 0} (named : (m n : ℕ) → S m n → HaveOneName names others m n) where
   mutual
-    term_before-same : {t u : Term} {rest more : List ℕ} → SameTerm (HaveOneName names others) t u → rest ≡ more
+    term_before-same : {t u : Term} {rest more : List ℕ} → SameTerm S t u → rest ≡ more
         → term_before (plain_leaves (name_in names)) t rest ≡ term_before (plain_leaves (name_in others)) u more
     term_before-same (same_eigen n) e = ap (λ w. 36 ∷ (decimal n ++ w)) e
     term_before-same (same_bound k) e = ap (λ w. (35 ∷ decimal k) ++ w) e
     term_before-same (same_variable v) e = ap (λ w. (86 ∷ decimal v) ++ w) e
-    term_before-same (same_app f hs) e = ap₂ (λ x y. x ++ y) f (args_before-same hs e)
+    term_before-same (same_app {f = f} {g = g} s hs) e = ap₂ (λ x y. x ++ y) (named f g s) (args_before-same hs e)
 
-    args_before-same : {ts us : Args} {rest more : List ℕ} → SameArgs (HaveOneName names others) ts us → rest ≡ more
+    args_before-same : {ts us : Args} {rest more : List ℕ} → SameArgs S ts us → rest ≡ more
         → args_before (plain_leaves (name_in names)) ts rest ≡ args_before (plain_leaves (name_in others)) us more
     args_before-same same_no_args e = e
     args_before-same (same_arg h hs) e = ap (λ w. 40 ∷ w) (term_before-same h (more_before-same hs e))
 
-    more_before-same : {ts us : Args} {rest more : List ℕ} → SameArgs (HaveOneName names others) ts us → rest ≡ more
+    more_before-same : {ts us : Args} {rest more : List ℕ} → SameArgs S ts us → rest ≡ more
         → more_before (plain_leaves (name_in names)) ts rest ≡ more_before (plain_leaves (name_in others)) us more
     more_before-same same_no_args e = ap (λ w. 41 ∷ w) e
     more_before-same (same_arg h hs) e = ap (λ w. 44 ∷ w) (term_before-same h (more_before-same hs e))
 
   -- the text of an atom
-  pub atom_text-same : {a b : Atom} → SameAtom (HaveOneName names others) a b → atom_text names a ≡ atom_text others b
+  pub atom_text-same : {a b : Atom} → SameAtom S a b → atom_text names a ≡ atom_text others b
   atom_text-same h = term_before-same (same_app h.names (args_of-same h.terms)) refl
