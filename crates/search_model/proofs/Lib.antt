@@ -4,3 +4,4 @@ pub mod SameSearches
 pub mod Renaming
 pub mod NamesKept
 pub mod OneSolution
+pub mod SameReadings
