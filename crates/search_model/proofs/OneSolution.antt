@@ -1,5 +1,5 @@
 -- Programs that are the same by their names have the same answers.
-use Rattle.std.proofs.Common.{◌≡◌, ℕ, zero, suc, ◌<◌, ◌≤◌, nat_eq, List, [], ◌∷◌, length, codes, get_or, slice_get, Some, refl, sym, ap, ◌∙◌, arith}
+use Rattle.std.proofs.Common.{◌≡◌, ℕ, zero, suc, ◌<◌, ◌≤◌, nat_eq, List, [], ◌∷◌, length, codes, get_or, Some, sym, ap, ◌∙◌, arith}
 use Rattle.std.proofs.lemmas.Bool.Decides.{Decides-eqb, Decides-like, same_from_decides}
 use Rattle.std.proofs.lemmas.Option.{slice_get-get_or}
 use Rattle.fpc_terms.specs.Name.{AreDifferent}
@@ -12,10 +12,10 @@ use Rattle.clause_language.specs.declared.clause.Clause.{Clause}
 use Rattle.clause_language.specs.declared.program.Program.{Program}
 use Rattle.clause_language.specs.declared.word_ids.WordIds.{WordIds}
 use Rattle.clause_language.specs.Naming.{AreTermsNamedBelow, IsAtomNamedBelow, AreAtomsNamedBelow, IsClauseNamedBelow, AreClausesNamedBelow}
-use Rattle.clause_language.specs.Program.{IsProgram, HaveWords}
+use Rattle.clause_language.specs.Program.{HaveWords}
 use Rattle.search_model.specs.Run.{Ending, ended, spent}
 use Rattle.search_model.specs.Search.{Answer, accepted, rejected}
-use Rattle.search_model.specs.Solve.{Nothing, solving, solved_atom, atom_text, text_limit, IsAccepted, IsSolved}
+use Rattle.search_model.specs.Solve.{Nothing, solving, atom_text, IsAccepted, IsSolved}
 use Rattle.search_model.specs.Renaming.{SameAtom, SameClause, HaveOneName, SameSolved, SolvedOnce}
 use Rattle.search_model.specs.declared.solve.Solved.{Solved}
 use Rattle.search_model.specs.declared.solve.Solved.TheVariants.{Accepted, Rejected, Spent, TooLong}
@@ -117,7 +117,7 @@ module _ (names others : List (List ℕ)) (p q : Program) (a b : Atom) (variable
 pub solved_once : SolvedOnce
 solved_once names others p q a b variables budget r s different apart is_program is_other same_clauses named other_named same_asked h k =
     let any : AreOneName names others p.ids.any q.ids.any =
-        (any_below names p.ids is_program.words, (any_below others q.ids is_other.words, any_is names p.ids is_program.words ∙ sym (any_is others q.ids is_other.words))) in
+    (any_below names p.ids is_program.words, (any_below others q.ids is_other.words, any_is names p.ids is_program.words ∙ sym (any_is others q.ids is_other.words))) in
     let asked = atom-below names others same_asked named other_named in
     let both = clauses-below names others same_clauses is_program.clauses_named is_other.clauses_named in
     answered_once names others p q a b variables budget any asked

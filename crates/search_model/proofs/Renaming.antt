@@ -1,7 +1,7 @@
 -- What a search finds is the same but for the numbers of names, and so it has the same text.
-use Rattle.std.proofs.Common.{◌≡◌, ℕ, suc, List, [], ◌∷◌, ◌++◌, nat_eq, refl, ap, ap₂, subst}
+use Rattle.std.proofs.Common.{◌≡◌, ℕ, List, ◌∷◌, ◌++◌, nat_eq, refl, ap, ap₂, subst}
 use Rattle.std.specs.Fmt.{decimal}
-use Rattle.fpc_terms.specs.Term.{Term, Args, put}
+use Rattle.fpc_terms.specs.Term.{Term, Args}
 use Rattle.fpc_terms.specs.Open.{constant}
 use Rattle.fpc_terms.specs.Text.{name_in, plain_leaves, term_before, args_before, more_before}
 use Rattle.fpc_terms.proofs.SameTerms.{SameTerm, SameArgs, same_eigen, same_bound, same_variable, same_app, same_no_args, same_arg, SameList, same_nil, same_cons}

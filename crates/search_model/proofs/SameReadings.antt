@@ -1,5 +1,5 @@
 -- What is read twice, into two tables of names, is the same by names.
-use Rattle.std.proofs.Common.{◌≡◌, ℕ, suc, ◌<◌, true, false, Option, Some, List, [], ◌∷◌, ◌++◌, map, length, refl, sym, ap, ap₂, ◌∙◌, subst, inl, inr, arith}
+use Rattle.std.proofs.Common.{◌≡◌, ℕ, suc, ◌<◌, Option, Some, List, [], ◌∷◌, map, length, refl, sym, ap, ap₂, ◌∙◌, subst, inl, inr, arith}
 use Rattle.std.specs.Str.{bytes_eq}
 use Rattle.std.specs.Cmp.Lexicographic.{bytes_decides}
 use Rattle.std.proofs.lemmas.Bool.{cases_Bool}
@@ -9,11 +9,9 @@ use Rattle.fpc_base.specs.Reading.{ReadsAll, at_end, later}
 use Rattle.fpc_terms.specs.Name.{AreDifferent, Agrees, Grows, index_in}
 use Rattle.fpc_terms.specs.Printing.{HasNamesBelow, HaveNamesBelow}
 use Rattle.fpc_terms.specs.ReadTerm.{any_variable, numbered}
-use Rattle.fpc_terms.specs.Spot.{alone}
-use Rattle.fpc_terms.specs.Machine.{wants, run, whole_of}
-use Rattle.fpc_terms.specs.Term.{Term, terms_in}
+use Rattle.fpc_terms.specs.Term.{terms_in}
 use Rattle.fpc_terms.specs.Text.{name_in}
-use Rattle.fpc_terms.specs.Written.{WrittenTerm, WrittenArgs, variable_word, application, no_words, words, IsKnown, AreKnown, IsTerm, term_meant, args_meant}
+use Rattle.fpc_terms.specs.Written.{WrittenTerm, WrittenArgs, variable_word, application, no_words, words, IsKnown, AreKnown, term_meant, args_meant}
 use Rattle.fpc_terms.proofs.ReadFacts.{Agrees-index_in}
 use Rattle.fpc_terms.proofs.SameTerms.{SameTerm, SameArgs, same_variable, same_app, same_no_args, same_arg, SameList, same_nil, same_cons, append-same}
 use Rattle.fpc_terms.proofs.TermReading.{is-whole}
@@ -27,13 +25,12 @@ use Rattle.clause_language.specs.declared.program.Program.{Program}
 use Rattle.clause_language.specs.Meant.{atom_meant, clause_meant, clause_variables, clauses_meant, declared_meant}
 use Rattle.clause_language.specs.Naming.{AreTermsNamedBelow, IsAtomNamedBelow, AreAtomsNamedBelow, IsClauseNamedBelow, AreClausesNamedBelow, AreDeclaredNamedBelow}
 use Rattle.clause_language.specs.Program.{IsJoined}
-use Rattle.clause_language.specs.ReadAtom.{IsAtom, AtomLimits, atom_variables, AtomIsRead}
+use Rattle.clause_language.specs.ReadAtom.{IsAtom, atom_variables, AtomIsRead}
 use Rattle.clause_language.specs.ReadFile.{DefinitionIsRead, CertificateIsRead, names_of}
 use Rattle.clause_language.specs.Written.{WrittenAtom, WrittenClause, WrittenItem, declaration, a_clause, WrittenDefinition, WrittenCertificate}
 use Rattle.clause_language.proofs.FileNames.{definition-below, certificate-below}
 use Rattle.clause_language.proofs.FileReading.{definition-read_once, certificate-read_once}
 use Rattle.search_model.specs.Renaming.{SameAtom, SameClause, HaveOneName}
-use Rattle.search_model.proofs.SameTermParts.{terms_in-same}
 
 -- a text with a place in the table is the name there
 name_in-index_in : (names : List (List ℕ)) (x : List ℕ) → index_in names x < length names → name_in names (index_in names x) ≡ x
@@ -42,9 +39,9 @@ name_in-index_in (y ∷ names) x h =
     elim (cases_Bool (bytes_eq x y)) [
       | inl e ↦ rw e (sym ((bytes_decides x y).0 e))
       | inr e ↦
-        let at : index_in (y ∷ names) x ≡ suc (index_in names x) = rw e refl in
-        let less : index_in names x < length names = omega (arith, at, h) in
-        rw e (name_in-index_in names x less)
+          let at : index_in (y ∷ names) x ≡ suc (index_in names x) = rw e refl in
+          let less : index_in names x < length names = omega (arith, at, h) in
+          rw e (name_in-index_in names x less)
     ]
 
 -- what a table's own numbering makes of written terms, where the names stand in the tables
@@ -144,7 +141,7 @@ module _ (names others : List (List ℕ)) where
     certificate-same expected earlier items c f r s =
         clauses-told r.written.items (ap (λ (x : Certificate). x.clauses) (r.meant (index_in names) own_names))
         (ap (λ (x : Certificate). x.clauses) (s.meant (index_in others) own_others)
-            ∙ ap (λ (x : WrittenCertificate). clauses_meant (index_in others) x.items) (certificate-read_once expected earlier items s.written r.written s.reads r.reads))
+        ∙ ap (λ (x : WrittenCertificate). clauses_meant (index_in others) x.items) (certificate-read_once expected earlier items s.written r.written s.reads r.reads))
         (certificate-below names different r.written c r.meant).1 (certificate-below others apart s.written f s.meant).1
 
   -- the clauses of programs
@@ -212,5 +209,5 @@ module _ (names others : List (List ℕ)) (different : AreDifferent names) (apar
       let numbers : List ℕ → ℕ = index_in (atom_variables r.written) in
       let e : a ≡ atom_meant (index_in names) numbers r.written = r.meant (index_in names) (Agrees-index_in names different) in
       let d : b ≡ atom_meant (index_in others) numbers r.written =
-          s.meant (index_in others) (Agrees-index_in others apart) ∙ ap (λ w. atom_meant (index_in others) (index_in (atom_variables w)) w) atom_written in
+      s.meant (index_in others) (Agrees-index_in others apart) ∙ ap (λ w. atom_meant (index_in others) (index_in (atom_variables w)) w) atom_written in
       rw (e, d) (atom_meant-same names others numbers r.written (subst (λ x. IsAtomNamedBelow (length names) x) e h) (subst (λ x. IsAtomNamedBelow (length others) x) d k))

@@ -1,14 +1,14 @@
 -- The search takes the same course over clauses that are the same but for the numbers of their names.
-use Rattle.std.proofs.Common.{◌≡◌, ℕ, zero, suc, Bool, true, false, ◌&&◌, nat_eq, List, [], ◌∷◌, ◌++◌, map, length, replicate, Option, Some, None, refl, ap, ap₂, subst, sym}
-use Rattle.fpc_terms.specs.Term.{Term, Args, terms_in, put, joined, variable}
+use Rattle.std.proofs.Common.{◌≡◌, ℕ, zero, suc, Bool, true, false, ◌&&◌, nat_eq, List, [], ◌∷◌, ◌++◌, map, length, replicate, Option, Some, None, ap₂, subst}
+use Rattle.fpc_terms.specs.Term.{Term, Args, put}
 use Rattle.fpc_terms.specs.Open.{Level, level_of, at_one, later, lower_in}
-use Rattle.fpc_terms.specs.Equality.{Equality, equality, walked_node}
+use Rattle.fpc_terms.specs.Equality.{Equality}
 use Rattle.fpc_terms.proofs.SameTerms.{SameTerm, SameArgs, same_variable, same_no_args, same_arg, SameList, same_nil, same_cons, SameOption, same_none, same_some, length-same, append-same}
 use Rattle.clause_language.specs.declared.atom.Atom.{Atom}
 use Rattle.clause_language.specs.declared.clause.Clause.{Clause}
 use Rattle.clause_language.specs.LeastModel.{put_atom, fits}
 use Rattle.search_model.specs.Run.{Ending, ended, spent, one_more, run}
-use Rattle.search_model.specs.Search.{Goal, call, equate, GoalList, Alternative, State, between, walking, Answer, accepted, rejected, equalities, extended, with_goals, answer_of, answer, put_goal, bound_to, by_clause, where_it_fits, by_clauses, equated, walked_on, behind_node, taken, step_of, step, start}
+use Rattle.search_model.specs.Search.{Goal, call, equate, GoalList, Alternative, State, between, walking, Answer, accepted, rejected, equalities, extended, with_goals, answer_of, answer, put_goal, bound_to, by_clause, where_it_fits, by_clauses, equated, walked_on, behind_node, taken, step_of, step}
 use Rattle.search_model.specs.Solve.{Nothing, no_calculus, solving}
 use Rattle.search_model.specs.Renaming.{SameAtom, SameClause}
 use Rattle.search_model.proofs.SameTermParts.{SameEquality, same_same, same_parts, same_older, same_walk, same_clash, map-same, put-same, map_put-same, at_one-same, later-same, lower_in-same, terms_in-same, joined-same, walked_node-same, equality-same}
@@ -80,11 +80,11 @@ module _ {S : ℕ → ℕ → Type 0} where
   bound_to-same v {t = t} {u = u} h (same_alternative {goals = goals} {more = more} {asked = asked} {answered = answered} gs emitted spelled ts levels) =
       subst
       (λ l. SameAlternative S (bound_to no_calculus v t (record { goals = goals; emitted = emitted; asked = asked; levels = levels }))
-          (record { goals = map (put_goal no_calculus (at_one v u)) more; emitted = map (no_calculus.put_step (at_one v u)) spelled; asked = map (put (at_one v u)) answered; levels = l }))
+      (record { goals = map (put_goal no_calculus (at_one v u)) more; emitted = map (no_calculus.put_step (at_one v u)) spelled; asked = map (put (at_one v u)) answered; levels = l }))
       (lower_in-same (level_of levels v) h levels)
       (same_alternative (map-same (put_goal no_calculus (at_one v t)) (put_goal no_calculus (at_one v u)) (λ g k s. put_goal-same (at_one v t) (at_one v u) (at_one-same v h) s) gs)
-          (map (no_calculus.put_step (at_one v t)) emitted) (map (no_calculus.put_step (at_one v u)) spelled)
-          (map_put-same (at_one v t) (at_one v u) (at_one-same v h) ts) (lower_in (level_of levels v) t levels))
+      (map (no_calculus.put_step (at_one v t)) emitted) (map (no_calculus.put_step (at_one v u)) spelled)
+      (map_put-same (at_one v t) (at_one v u) (at_one-same v h) ts) (lower_in (level_of levels v) t levels))
 
   with_goals-same : {a b : Alternative Nothing Nothing} {goals more : List (Goal Nothing Nothing)} → SameAlternative S a b → SameList (SameGoal S) goals more → SameAlternative S (with_goals a goals) (with_goals b more)
   with_goals-same (same_alternative gs emitted spelled ts levels) k = same_alternative k emitted spelled ts levels
@@ -96,12 +96,12 @@ module _ {S : ℕ → ℕ → Type 0} where
   by_clause-same k {a = a} {b = b} {c = c} {d = d} h s =
       subst
       (λ n. SameGoalList S (by_clause no_calculus a k c)
-          (record { goals = equalities b.arguments (map (put (later k)) d.head.arguments) (map (λ x. call (put_atom (later k) x)) d.body); new = replicate n None }))
+      (record { goals = equalities b.arguments (map (put (later k)) d.head.arguments) (map (λ x. call (put_atom (later k) x)) d.body); new = replicate n None }))
       s.as_many
       (same_goal_list
-          (equalities-same h.terms (map_put-same (later k) (later k) (later-same k) s.heads.terms)
-              (map-same (λ x. call (put_atom (later k) x)) (λ x. call (put_atom (later k) x)) (λ x y r. same_call (put_atom-same (later k) (later k) (later-same k) r)) s.bodies))
-          (replicate c.variables None))
+      (equalities-same h.terms (map_put-same (later k) (later k) (later-same k) s.heads.terms)
+      (map-same (λ x. call (put_atom (later k) x)) (λ x. call (put_atom (later k) x)) (λ x y r. same_call (put_atom-same (later k) (later k) (later-same k) r)) s.bodies))
+      (replicate c.variables None))
 
   where_it_fits-same : (c : Bool) {e d : GoalList Nothing Nothing} {es ds : List (GoalList Nothing Nothing)} → SameGoalList S e d → SameList (SameGoalList S) es ds
       → SameList (SameGoalList S) (where_it_fits no_calculus c e es) (where_it_fits no_calculus c d ds)

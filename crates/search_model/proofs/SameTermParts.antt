@@ -1,6 +1,6 @@
 -- What becomes of terms that are the same but for the numbers of their names.
-use Rattle.std.proofs.Common.{◌≡◌, ℕ, suc, ◌+◌, Bool, true, false, ◌&&◌, nat_eq, nat_lt, List, map, Option, refl, ap, ap₂, ◌∙◌, subst}
-use Rattle.fpc_terms.specs.Term.{Term, Args, variable, no_args, count, terms_in, joined, put, put_all}
+use Rattle.std.proofs.Common.{◌≡◌, ℕ, suc, ◌+◌, Bool, true, false, ◌&&◌, nat_eq, nat_lt, List, map, refl, ap, ap₂, ◌∙◌, subst}
+use Rattle.fpc_terms.specs.Term.{Term, Args, count, terms_in, joined, put, put_all}
 use Rattle.fpc_terms.specs.Open.{Level, at_one, later, constant, lower_in, lower_in_args}
 use Rattle.fpc_terms.specs.Equality.{Equality, same, parts, older, walk, clash, only_if, equality_of_variables, equality, is_out_of_scope, has_level, unless, walked_node}
 use Rattle.fpc_terms.proofs.SameTerms.{SameTerm, SameArgs, same_eigen, same_bound, same_variable, same_app, same_no_args, same_arg, SameList, same_nil, same_cons, SameOption, same_none, same_some, if-same}
