@@ -19,20 +19,8 @@ use Rattle.search_model.specs.Solve.{Nothing, solving, atom_text, IsAccepted, Is
 use Rattle.search_model.specs.Renaming.{SameAtom, SameClause, HaveOneName, SameSolved, SolvedOnce}
 use Rattle.search_model.specs.declared.solve.Solved.{Solved}
 use Rattle.search_model.specs.declared.solve.Solved.TheVariants.{Accepted, Rejected, Spent, TooLong}
+use Rattle.search_model.proofs.NamesKept.{any_is, any_below}
 use Rattle.search_model.proofs.Renaming.{TellsTheSame, solved-same, endings_tell, atom_text-same}
-
--- what has a name of some length stands in the table
-below_where_named : (names : List (List ℕ)) (k b : ℕ) (bs : List ℕ) → name_in names k ≡ b ∷ bs → k < length names
-below_where_named [] k b bs e = cc
-below_where_named (x ∷ names) zero b bs e = omega arith
-below_where_named (x ∷ names) (suc k) b bs e = let less = below_where_named names k b bs e in omega (arith, less)
-
--- the name of the constant for variables that are left
-any_is : (names : List (List ℕ)) (i : WordIds) → HaveWords names i → name_in names i.any ≡ codes "any"
-any_is names i h = ap (λ w. get_or w 37 []) h
-
-any_below : (names : List (List ℕ)) (i : WordIds) → HaveWords names i → i.any < length names
-any_below names i h = below_where_named names i.any 97 (110 ∷ 121 ∷ []) (any_is names i h)
 
 -- a name stands at one place
 one_place : (names : List (List ℕ)) → AreDifferent names → (i j : ℕ) → i < length names → j < length names → name_in names i ≡ name_in names j → i ≡ j
@@ -113,12 +101,21 @@ module _ (names others : List (List ℕ)) (p q : Program) (a b : Atom) (variable
   answered_once TooLong Spent h k = tell (ended (accepted h.is_accepted.found) h.units) spent h.is_accepted.ends k
   answered_once TooLong TooLong h k = tt
 
--- the programs have the same answers
-pub solved_once : SolvedOnce
-solved_once names others p q a b variables budget r s different apart is_program is_other same_clauses named other_named same_asked h k =
+-- programs whose clauses and constants are named in their tables have the same answers
+pub solved-by_names : (names others : List (List ℕ)) (p q : Program) (a b : Atom) (variables budget : ℕ) (r s : Solved) → AreDifferent names → AreDifferent others
+    → HaveWords names p.ids → HaveWords others q.ids → AreClausesNamedBelow (length names) p.clauses → AreClausesNamedBelow (length others) q.clauses
+    → SameList (SameClause (HaveOneName names others)) p.clauses q.clauses → IsAtomNamedBelow (length names) a → IsAtomNamedBelow (length others) b
+    → SameAtom (HaveOneName names others) a b → IsSolved names p a variables budget r → IsSolved others q b variables budget s → SameSolved names others r s
+solved-by_names names others p q a b variables budget r s different apart words other_words clauses other_clauses same_clauses named other_named same_asked h k =
     let any : AreOneName names others p.ids.any q.ids.any =
-    (any_below names p.ids is_program.words, (any_below others q.ids is_other.words, any_is names p.ids is_program.words ∙ sym (any_is others q.ids is_other.words))) in
+    (any_below names p.ids words, (any_below others q.ids other_words, any_is names p.ids words ∙ sym (any_is others q.ids other_words))) in
     let asked = atom-below names others same_asked named other_named in
-    let both = clauses-below names others same_clauses is_program.clauses_named is_other.clauses_named in
+    let both = clauses-below names others same_clauses clauses other_clauses in
     answered_once names others p q a b variables budget any asked
     (λ e d i j. endings_tell (one_to_one names others different apart) budget variables both asked i j) r s h k
+
+-- and so have programs
+pub solved_once : SolvedOnce
+solved_once names others p q a b variables budget r s different apart is_program is_other same_clauses named other_named same_asked h k =
+    solved-by_names names others p q a b variables budget r s different apart is_program.words is_other.words is_program.clauses_named is_other.clauses_named same_clauses named other_named
+    same_asked h k

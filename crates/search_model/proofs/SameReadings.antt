@@ -9,9 +9,10 @@ use Rattle.fpc_base.specs.Reading.{ReadsAll, at_end, later}
 use Rattle.fpc_terms.specs.Name.{AreDifferent, Agrees, Grows, index_in}
 use Rattle.fpc_terms.specs.Printing.{HasNamesBelow, HaveNamesBelow}
 use Rattle.fpc_terms.specs.ReadTerm.{any_variable, numbered}
-use Rattle.fpc_terms.specs.Term.{terms_in}
+use Rattle.fpc_terms.specs.Term.{Args, no_args, arg, terms_in}
 use Rattle.fpc_terms.specs.Text.{name_in}
 use Rattle.fpc_terms.specs.Written.{WrittenTerm, WrittenArgs, variable_word, application, no_words, words, IsKnown, AreKnown, term_meant, args_meant}
+use Rattle.fpc_terms.proofs.NamesBelow.{number-below, args-below}
 use Rattle.fpc_terms.proofs.ReadFacts.{Agrees-index_in}
 use Rattle.fpc_terms.proofs.SameTerms.{SameTerm, SameArgs, same_variable, same_app, same_no_args, same_arg, SameList, same_nil, same_cons, append-same}
 use Rattle.fpc_terms.proofs.TermReading.{is-whole}
@@ -27,6 +28,7 @@ use Rattle.clause_language.specs.Naming.{AreTermsNamedBelow, IsAtomNamedBelow, A
 use Rattle.clause_language.specs.Program.{IsJoined}
 use Rattle.clause_language.specs.ReadAtom.{IsAtom, atom_variables, AtomIsRead}
 use Rattle.clause_language.specs.ReadFile.{DefinitionIsRead, CertificateIsRead, names_of}
+use Rattle.clause_language.specs.Text.{args_of}
 use Rattle.clause_language.specs.Written.{WrittenAtom, WrittenClause, WrittenItem, declaration, a_clause, WrittenDefinition, WrittenCertificate}
 use Rattle.clause_language.proofs.FileNames.{definition-below, certificate-below}
 use Rattle.clause_language.proofs.FileReading.{definition-read_once, certificate-read_once}
@@ -194,6 +196,32 @@ atom-once tokens a b h k =
     same_atom a b
     (sym (is-whole any_variable tokens (as_term a) (record { spelled = h; known_all = any_known (as_term a) })) ∙ is-whole any_variable tokens (as_term b) (record { spelled = k; known_all = any_known (as_term b) }))
 
+args-listed : (ts : Args) → args_of (terms_in ts) ≡ ts
+args-listed no_args = refl
+args-listed (arg t ts) = ap (λ us. arg t us) (args-listed ts)
+
+listed-once : (ts us : Args) → terms_in ts ≡ terms_in us → ts ≡ us
+listed-once ts us e = sym (args-listed ts) ∙ ap args_of e ∙ args-listed us
+
+listed-below : (n : ℕ) (ts : Args) → HaveNamesBelow n ts → AreTermsNamedBelow n (terms_in ts)
+listed-below n no_args h = tt
+listed-below n (arg t ts) (h, hs) = (h, listed-below n ts hs)
+
+-- an atom that is read has its names in the table
+pub atom-named : (names : List (List ℕ)) (items : List Item) (a : Atom) (m : ℕ) → AreDifferent names → AtomIsRead items names (a, m) → IsAtomNamedBelow (length names) a
+atom-named names items a m different r =
+    let numbers : List ℕ → ℕ = index_in (atom_variables r.written) in
+    let own = r.meant (index_in names) (Agrees-index_in names different) in
+    let told : (number : List ℕ → ℕ) → Agrees number names → atom_meant number numbers r.written ≡ atom_meant (index_in names) numbers r.written =
+    (λ number agrees. sym (r.meant number agrees) ∙ own) in
+    let below = args-below names different (numbered numbers) (λ x. tt) r.written.args
+    (λ number agrees. listed-once (args_meant number (numbered numbers) r.written.args) (args_meant (index_in names) (numbered numbers) r.written.args)
+    (ap (λ (x : Atom). x.arguments) (told number agrees))) in
+    rw own (
+      number-below names r.written.text different (λ number agrees. ap (λ (x : Atom). x.name) (told number agrees)),
+      listed-below (length names) (args_meant (index_in names) (numbered numbers) r.written.args) below,
+    )
+
 module _ (names others : List (List ℕ)) (different : AreDifferent names) (apart : AreDifferent others) (items : List Item) (a b : Atom) (m n : ℕ)
     (r : AtomIsRead items names (a, m)) (s : AtomIsRead items others (b, n)) where
   atom_written : s.written ≡ r.written
@@ -204,10 +232,12 @@ module _ (names others : List (List ℕ)) (different : AreDifferent names) (apar
   atom-as_many = r.counted ∙ sym (s.counted ∙ ap (λ w. length (atom_variables w)) atom_written)
 
   -- and is the same by its names
-  pub atom-same : IsAtomNamedBelow (length names) a → IsAtomNamedBelow (length others) b → SameAtom (HaveOneName names others) a b
-  atom-same h k =
+  pub atom-same : SameAtom (HaveOneName names others) a b
+  atom-same =
       let numbers : List ℕ → ℕ = index_in (atom_variables r.written) in
       let e : a ≡ atom_meant (index_in names) numbers r.written = r.meant (index_in names) (Agrees-index_in names different) in
       let d : b ≡ atom_meant (index_in others) numbers r.written =
       s.meant (index_in others) (Agrees-index_in others apart) ∙ ap (λ w. atom_meant (index_in others) (index_in (atom_variables w)) w) atom_written in
+      let h = atom-named names items a m different r in
+      let k = atom-named others items b n apart s in
       rw (e, d) (atom_meant-same names others numbers r.written (subst (λ x. IsAtomNamedBelow (length names) x) e h) (subst (λ x. IsAtomNamedBelow (length others) x) d k))
