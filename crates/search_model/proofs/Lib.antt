@@ -5,3 +5,4 @@ pub mod Renaming
 pub mod NamesKept
 pub mod OneSolution
 pub mod SameReadings
+pub mod OneReading

@@ -1,13 +1,18 @@
 -- The search over clauses hangs on no number of a name.
-use Rattle.std.specs.Prelude.{◌≡◌, ℕ, List, length}
+use Rattle.std.specs.Prelude.{◌≡◌, ℕ, List, length, Option}
+use Rattle.fpc_base.specs.Lexeme.{Item}
 use Rattle.fpc_terms.specs.Name.{AreDifferent}
 use Rattle.fpc_terms.specs.Text.{name_in}
 use Rattle.fpc_terms.proofs.SameTerms.{SameTerm, SameList}
+use Rattle.polarised_formulas.specs.declared.logic.Logic.{Logic}
 use Rattle.clause_language.specs.declared.atom.Atom.{Atom}
 use Rattle.clause_language.specs.declared.clause.Clause.{Clause}
+use Rattle.clause_language.specs.declared.definition.Definition.{Definition}
 use Rattle.clause_language.specs.declared.program.Program.{Program}
 use Rattle.clause_language.specs.Naming.{IsAtomNamedBelow}
-use Rattle.clause_language.specs.Program.{IsProgram}
+use Rattle.clause_language.specs.Program.{HaveWords, IsProgram}
+use Rattle.clause_language.specs.ReadAtom.{AtomIsRead}
+use Rattle.clause_language.specs.ReadFile.{DefinitionIsRead}
 use Rattle.search_model.specs.Solve.{IsSolved, atom_text}
 use Rattle.search_model.specs.declared.solve.Solved.{Solved}
 use Rattle.search_model.specs.declared.solve.Solved.TheVariants.{Accepted, Rejected, Spent, TooLong}
@@ -41,3 +46,22 @@ SolvedOnce = (names others : List (List ℕ)) (p q : Program) (a b : Atom) (vari
     → IsProgram names p → IsProgram others q → SameList (SameClause (HaveOneName names others)) p.clauses q.clauses
     → IsAtomNamedBelow (length names) a → IsAtomNamedBelow (length others) b → SameAtom (HaveOneName names others) a b
     → IsSolved names p a variables budget r → IsSolved others q b variables budget s → SameSolved names others r s
+
+-- A definition and an atom are read from items, by the numbers of names in a table, and the search for the atom over the definition's clauses is
+-- answered so within a budget.
+pub record IsAnswered (expected : Option Logic) (items question : List Item) (budget : ℕ) (names : List (List ℕ)) (answer : Solved) : Type 0 where
+  pub different : AreDifferent names
+  pub meaning : Definition
+  pub read : DefinitionIsRead expected items names meaning
+  pub program : Program
+  pub alone : program.clauses ≡ meaning.clauses
+  pub words : HaveWords names program.ids
+  pub asked : Atom
+  pub variables : ℕ
+  pub atom_read : AtomIsRead question names (asked, variables)
+  pub is_solved : IsSolved names program asked variables budget answer
+
+-- the answer hangs on the items alone, and on no table
+abbrev pub AnsweredOnce : Type 0
+AnsweredOnce = (expected : Option Logic) (items question : List Item) (budget : ℕ) (names others : List (List ℕ)) (r s : Solved) → IsAnswered expected items question budget names r
+    → IsAnswered expected items question budget others s → SameSolved names others r s
