@@ -1,5 +1,5 @@
 -- Programs that are the same by their names have the same answers.
-use Rattle.std.proofs.Common.{◌≡◌, ℕ, zero, suc, ◌<◌, ◌≤◌, nat_eq, List, [], ◌∷◌, length, codes, get_or, Some, sym, ap, ◌∙◌, arith}
+use Rattle.std.proofs.Common.{◌≡◌, ℕ, ◌<◌, ◌≤◌, nat_eq, List, [], length, Some, sym, ap, ◌∙◌, arith}
 use Rattle.std.proofs.lemmas.Bool.Decides.{Decides-eqb, Decides-like, same_from_decides}
 use Rattle.std.proofs.lemmas.Option.{slice_get-get_or}
 use Rattle.fpc_terms.specs.Name.{AreDifferent}
@@ -10,7 +10,6 @@ use Rattle.fpc_terms.proofs.SameTerms.{SameTerm, SameArgs, same_eigen, same_boun
 use Rattle.clause_language.specs.declared.atom.Atom.{Atom}
 use Rattle.clause_language.specs.declared.clause.Clause.{Clause}
 use Rattle.clause_language.specs.declared.program.Program.{Program}
-use Rattle.clause_language.specs.declared.word_ids.WordIds.{WordIds}
 use Rattle.clause_language.specs.Naming.{AreTermsNamedBelow, IsAtomNamedBelow, AreAtomsNamedBelow, IsClauseNamedBelow, AreClausesNamedBelow}
 use Rattle.clause_language.specs.Program.{HaveWords}
 use Rattle.search_model.specs.Run.{Ending, ended, spent}

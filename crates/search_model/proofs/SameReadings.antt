@@ -137,6 +137,12 @@ module _ (names others : List (List ℕ)) where
           (ap (λ (x : Definition). x.declared) (s.meant (index_in others) own_others) ∙ ap (λ (x : WrittenDefinition). declared_meant (index_in others) x.items) definition_written)
           (definition-below names different r.written d r.meant).0 (definition-below others apart s.written e s.meant).0
 
+      -- its logic
+      pub definition-logic : d.logic ≡ e.logic
+      definition-logic =
+          ap (λ (x : Definition). x.logic) (r.meant (index_in names) own_names) ∙ ap (λ (x : WrittenDefinition). x.logic) (sym definition_written)
+          ∙ sym (ap (λ (x : Definition). x.logic) (s.meant (index_in others) own_others))
+
     -- the clauses of a certificate that is read twice
     pub certificate-same : (expected : Option Logic) (earlier : List (List ℕ)) (items : List Item) (c f : Certificate) → CertificateIsRead expected earlier items names c
         → CertificateIsRead expected earlier items others f → SameList (SameClause (HaveOneName names others)) c.clauses f.clauses
@@ -150,6 +156,19 @@ module _ (names others : List (List ℕ)) where
   pub program-same : (d e : Definition) (c f : Certificate) (p q : Program) → SameList (SameClause (HaveOneName names others)) d.clauses e.clauses
       → SameList (SameClause (HaveOneName names others)) c.clauses f.clauses → IsJoined d c p → IsJoined e f q → SameList (SameClause (HaveOneName names others)) p.clauses q.clauses
   program-same d e c f p q h k j i = rw (j.clauses, i.clauses) (append-same h k)
+
+-- the clauses of a definition with a certificate of its logic, which are both read twice
+pub joined-same : (names others : List (List ℕ)) (expected : Option Logic) (items more : List Item) (d e : Definition) (c f : Certificate) (p q : Program) → AreDifferent names → AreDifferent others
+    → DefinitionIsRead expected items names d → DefinitionIsRead expected items others e → CertificateIsRead (Some d.logic) (names_of names d.declared) more names c
+    → CertificateIsRead (Some e.logic) (names_of others e.declared) more others f → IsJoined d c p → IsJoined e f q
+    → SameList (SameClause (HaveOneName names others)) p.clauses q.clauses
+joined-same names others expected items more d e c f p q different apart r s u v j i =
+    let logic : e.logic ≡ d.logic = sym (definition-logic names others different apart expected items d e r s) in
+    let earlier : names_of others e.declared ≡ names_of names d.declared = sym (definition-names names others different apart expected items d e r s) in
+    let w : CertificateIsRead (Some d.logic) (names_of names d.declared) more others f =
+    subst (λ l. CertificateIsRead (Some l) (names_of names d.declared) more others f) logic (subst (λ ns. CertificateIsRead (Some e.logic) ns more others f) earlier v) in
+    program-same names others d e c f p q (definition-same names others different apart expected items d e r s)
+    (certificate-same names others different apart (Some d.logic) (names_of names d.declared) more c f u w) j i
 
 -- what is read is read with a table that grew
 pub definition-grown : (expected : Option Logic) (items : List Item) (old new : List (List ℕ)) (d : Definition) → Grows old new → DefinitionIsRead expected items old d → DefinitionIsRead expected items new d
