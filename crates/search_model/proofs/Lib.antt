@@ -10,3 +10,10 @@ pub mod Covered
 pub mod CoveredGoals
 pub mod Complete
 pub mod SolveComplete
+pub mod SameTermParts
+pub mod SameSearches
+pub mod Renaming
+pub mod NamesKept
+pub mod OneSolution
+pub mod SameReadings
+pub mod OneReading

@@ -2,3 +2,4 @@ pub mod Run
 pub mod Search
 pub mod Lawful
 pub mod Solve
+pub mod Renaming

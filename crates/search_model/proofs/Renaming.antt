@@ -1,0 +1,69 @@
+-- What a search finds is the same but for the numbers of names, and so it has the same text.
+use Rattle.std.proofs.Common.{◌≡◌, ℕ, List, ◌∷◌, ◌++◌, nat_eq, refl, ap, ap₂, subst}
+use Rattle.std.specs.Fmt.{decimal}
+use Rattle.fpc_terms.specs.Term.{Term, Args}
+use Rattle.fpc_terms.specs.Open.{constant}
+use Rattle.fpc_terms.specs.Text.{name_in, plain_leaves, term_before, args_before, more_before}
+use Rattle.fpc_terms.proofs.SameTerms.{SameTerm, SameArgs, same_eigen, same_bound, same_variable, same_app, same_no_args, same_arg, SameList, same_nil, same_cons}
+use Rattle.clause_language.specs.declared.atom.Atom.{Atom}
+use Rattle.clause_language.specs.declared.clause.Clause.{Clause}
+use Rattle.clause_language.specs.Text.{args_of}
+use Rattle.search_model.specs.Run.{Ending, ended, spent}
+use Rattle.search_model.specs.Search.{Alternative, Answer, accepted, rejected}
+use Rattle.search_model.specs.Solve.{Nothing, solving, solved_atom, atom_text}
+use Rattle.search_model.specs.Renaming.{SameAtom, SameClause, HaveOneName}
+use Rattle.search_model.proofs.SameTermParts.{map_put-same, constant-same}
+use Rattle.search_model.proofs.SameSearches.{SameEnding, same_ended, same_spent, SameAlternative, same_alternative, SameAnswer, same_accepted, same_rejected, solving-same}
+
+module _ {S : ℕ → ℕ → Type 0} where
+  -- the atom that was found
+  pub solved-same : (m n : ℕ) {a b : Atom} {f g : Alternative Nothing Nothing} → S m n → SameAtom S a b → SameAlternative S f g → SameAtom S (solved_atom m a f) (solved_atom n b g)
+  solved-same m n s h (same_alternative gs emitted spelled ts levels) =
+      record { names = h.names; terms = map_put-same (constant m) (constant n) (constant-same s) ts }
+
+  -- a list as arguments
+  pub args_of-same : {ts us : List Term} → SameList (SameTerm S) ts us → SameArgs S (args_of ts) (args_of us)
+  args_of-same same_nil = same_no_args
+  args_of-same (same_cons h hs) = same_arg h (args_of-same hs)
+
+-- what two endings tell: they are of one kind, with related alternatives and the same units
+abbrev pub TellsTheSame : (ℕ → ℕ → Type 0) → Ending (Answer Nothing Nothing) → Ending (Answer Nothing Nothing) → Type 0
+TellsTheSame S (ended (accepted f) u) (ended (accepted g) v) = SameAlternative S f g × (u ≡ v)
+TellsTheSame S (ended rejected u) (ended rejected v) = u ≡ v
+TellsTheSame S spent spent = Unit {0}
+TellsTheSame S _ _ = ⊥
+
+tells_the_same : {S : ℕ → ℕ → Type 0} {e d : Ending (Answer Nothing Nothing)} → SameEnding (SameAnswer S) e d → TellsTheSame S e d
+tells_the_same (same_ended (same_accepted h) units) = (h, refl)
+tells_the_same (same_ended same_rejected units) = refl
+tells_the_same same_spent = tt
+
+-- what is known of the endings of two searches
+pub endings_tell : {S : ℕ → ℕ → Type 0} (one : (f g m n : ℕ) → S f m → S g n → nat_eq f g ≡ nat_eq m n) {cs ds : List Clause} {a b : Atom} (budget variables : ℕ) {e d : Ending (Answer Nothing Nothing)}
+    → SameList (SameClause S) cs ds → SameAtom S a b → solving cs budget a variables ≡ e → solving ds budget b variables ≡ d → TellsTheSame S e d
+endings_tell {S = S} one {cs = cs} {ds = ds} {a = a} {b = b} budget variables {e = e} {d = d} ss h p q =
+    subst (λ w. TellsTheSame S w d) p (subst (λ w. TellsTheSame S (solving cs budget a variables) w) q (tells_the_same (solving-same one ss h budget variables)))
+
+-- related names are the same, each by its own table
+module _ (names others : List (List ℕ)) {S : ℕ → ℕ → Type 0} (named : (m n : ℕ) → S m n → HaveOneName names others m n) where
+  mutual
+    term_before-same : {t u : Term} {rest more : List ℕ} → SameTerm S t u → rest ≡ more
+        → term_before (plain_leaves (name_in names)) t rest ≡ term_before (plain_leaves (name_in others)) u more
+    term_before-same (same_eigen n) e = ap (λ w. 36 ∷ (decimal n ++ w)) e
+    term_before-same (same_bound k) e = ap (λ w. (35 ∷ decimal k) ++ w) e
+    term_before-same (same_variable v) e = ap (λ w. (86 ∷ decimal v) ++ w) e
+    term_before-same (same_app {f = f} {g = g} s hs) e = ap₂ (λ x y. x ++ y) (named f g s) (args_before-same hs e)
+
+    args_before-same : {ts us : Args} {rest more : List ℕ} → SameArgs S ts us → rest ≡ more
+        → args_before (plain_leaves (name_in names)) ts rest ≡ args_before (plain_leaves (name_in others)) us more
+    args_before-same same_no_args e = e
+    args_before-same (same_arg h hs) e = ap (λ w. 40 ∷ w) (term_before-same h (more_before-same hs e))
+
+    more_before-same : {ts us : Args} {rest more : List ℕ} → SameArgs S ts us → rest ≡ more
+        → more_before (plain_leaves (name_in names)) ts rest ≡ more_before (plain_leaves (name_in others)) us more
+    more_before-same same_no_args e = ap (λ w. 41 ∷ w) e
+    more_before-same (same_arg h hs) e = ap (λ w. 44 ∷ w) (term_before-same h (more_before-same hs e))
+
+  -- the text of an atom
+  pub atom_text-same : {a b : Atom} → SameAtom S a b → atom_text names a ≡ atom_text others b
+  atom_text-same h = term_before-same (same_app h.names (args_of-same h.terms)) refl
