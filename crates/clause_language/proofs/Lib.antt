@@ -33,3 +33,4 @@ pub mod ItemsMeant
 pub mod RoundTrip
 pub mod ReadAs
 pub mod Joined
+pub mod Words

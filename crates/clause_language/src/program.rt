@@ -40,5 +40,17 @@ pub fn join(
     ensures names { Grows names.old names.new }
     ensures only { AddsOnly IsWord names.old names.new }
 {
-    Err(OutOfMemory)
+    let ids = WordIds::new(names)?;
+    let mut declared = definition.declared;
+    declared.append(certificate.declared)?;
+    let mut clauses = definition.clauses;
+    clauses.append(certificate.clauses)?;
+    Ok(Program {
+        logic: definition.logic,
+        declared,
+        clauses,
+        term: certificate.term,
+        variables: certificate.variables,
+        ids,
+    })
 }
