@@ -16,3 +16,4 @@ pub mod NamesBelow
 pub mod SameTerms
 pub mod AddingFacts
 pub mod LevelFacts
+pub mod RoomFacts

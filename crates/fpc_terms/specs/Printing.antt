@@ -1,6 +1,6 @@
 -- How the text of a term comes about cell by cell, and which names a term has.
 -- A list of numbers stands for the open parentheses, the innermost first: the number counts the arguments behind the one at hand.
-use Rattle.std.specs.Prelude.{◌≡◌, ℕ, zero, suc, ◌<◌, List, [], ◌∷◌, ◌++◌, length, take}
+use Rattle.std.specs.Prelude.{◌≡◌, ℕ, zero, suc, ◌+◌, ◌<◌, List, [], ◌∷◌, ◌++◌, length, take}
 use Rattle.std.specs.Fmt.{decimal}
 use Rattle.fpc_terms.specs.declared.cell.Cell.{Cell}
 use Rattle.fpc_terms.specs.declared.cell.Cell.TheVariants.{Eigen, Bound, Var, App}
@@ -77,3 +77,12 @@ abbrev pub cells_text : Leaves → List ℕ → List Cell → List ℕ
 cells_text leaves open_counts [] = []
 cells_text leaves open_counts (c ∷ cs) =
     head_text leaves c ++ (behind_text (arguments_of c) open_counts ++ cells_text leaves (behind_counts (arguments_of c) open_counts) cs)
+
+-- how many signs so many arguments take beside their texts: two parentheses, and a comma between one and the next
+abbrev pub signs_around : ℕ → ℕ
+signs_around zero = 0
+signs_around (suc n) = n + 2
+
+-- how many bytes a cell adds to the text
+abbrev pub cell_length : Leaves → Cell → ℕ
+cell_length leaves c = length (head_text leaves c) + signs_around (arguments_of c)

@@ -1,5 +1,5 @@
 -- The text of a term.
-use Rattle.std.specs.Prelude.{ℕ, List, [], ◌∷◌, ◌++◌, get_or}
+use Rattle.std.specs.Prelude.{ℕ, ◌-◌, nat_le, if◌then◌else◌, List, [], ◌∷◌, ◌++◌, get_or, Option, Some, None}
 use Rattle.std.specs.Fmt.{decimal}
 use Rattle.fpc_terms.specs.Term.{Term, Args, eigen, bound, variable, app, no_args, arg}
 
@@ -38,3 +38,7 @@ plain_leaves name = record { name = name; bound = λ k. 35 ∷ decimal k; variab
 -- the text of a term, with the names of a table
 abbrev pub term_text : List (List ℕ) → Term → List ℕ
 term_text names t = term_before (plain_leaves (name_in names)) t []
+
+-- the room that is left behind so many bytes, where they fit
+abbrev pub room_left : ℕ → ℕ → Option ℕ
+room_left room n = if nat_le n room then Some (room - n) else None

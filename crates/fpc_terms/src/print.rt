@@ -1,8 +1,9 @@
 //! Terms as texts.
-ghost use Rattle.std.specs.Prelude.{◌≡◌, ℕ, ◌<◌, ◌++◌, ◌∷◌, [], OnOk, OnErr, IfOk, MatchOption, length};
+ghost use Rattle.std.specs.Prelude.{◌≡◌, ℕ, ◌<◌, ◌≤◌, ◌++◌, ◌∷◌, [], OnOk, OnErr, IfOk, MatchOption, length};
 ghost use Rattle.std.specs.Fmt.{decimal};
-ghost use Rattle.fpc_terms.specs.Text.{term_text, name_in, plain_leaves};
-ghost use Rattle.fpc_terms.specs.Printing.{HasNamesBelow, StartsWith, IsNamedBelow, AreNamedBelow, head_text, arguments_of, end_text, end_counts, behind_text, behind_counts, cells_text};
+ghost use Rattle.std.specs.List.{sum_by};
+ghost use Rattle.fpc_terms.specs.Text.{term_text, name_in, plain_leaves, room_left};
+ghost use Rattle.fpc_terms.specs.Printing.{HasNamesBelow, StartsWith, IsNamedBelow, AreNamedBelow, head_text, arguments_of, end_text, end_counts, behind_text, behind_counts, cells_text, signs_around, cell_length};
 
 #[cfg(test)]
 mod tests;
@@ -177,4 +178,75 @@ impl Counts {
     {
         self.items.pop()
     }
+}
+
+/// The room that is left behind the text of a term, where the text fits. It takes no memory. Time is linear in the term's size.
+#[tactic(auto, using(crate::proofs::PrintFacts::print_facts, crate::proofs::RoomFacts::room_facts))]
+pub fn room_behind(names: &Names, term: &TermBuf, room: u64) -> Option<u64>
+    requires { HasNamesBelow (length names.now) term.now }
+    ensures { result ≡ room_left room (length (term_text names.now term.now)) }
+{
+    room_behind_cells(names, term.cells(), room)
+}
+
+/// The room that is left behind the text of a term with these cells, where the text fits.
+#[tactic(auto, using(crate::proofs::RoomFacts::room_facts))]
+fn room_behind_cells(names: &Names, cells: &[Cell], room: u64) -> Option<u64>
+    requires { AreNamedBelow (length names.now) cells.now }
+    ensures { result ≡ room_left room (sum_by (cell_length (plain_leaves (name_in names.now))) cells.now) }
+{
+    let mut left = room;
+    for cell in cells {
+        left = left.checked_sub(length_of_cell(names, *cell))?;
+    }
+    Some(left)
+}
+
+/// How many bytes a cell adds to the text.
+#[tactic(auto, using(crate::proofs::RoomFacts::room_facts))]
+fn length_of_cell(names: &Names, cell: Cell) -> u64
+    requires { IsNamedBelow (length names.now) cell }
+    ensures { result ≡ cell_length (plain_leaves (name_in names.now)) cell }
+{
+    match cell {
+        Cell::Eigen(n) => 1 + count_digits(n),
+        Cell::Bound(k) => 1 + count_digits(k as u64),
+        Cell::Var(v) => 1 + count_digits(v),
+        Cell::App(name, arguments) => length_of_name(names, name) + count_signs(arguments),
+    }
+}
+
+/// How many bytes a name has.
+fn length_of_name(names: &Names, name: NameId) -> u64
+    requires { name < length names.now }
+    ensures length { result ≡ length (name_in names.now name) }
+    ensures few { result ≤ 255 }
+{
+    names.text(name).len() as u64
+}
+
+/// How many parentheses and commas so many arguments take.
+fn count_signs(arguments: u8) -> u64
+    ensures signs { result ≡ signs_around arguments }
+    ensures few { result ≤ 256 }
+{
+    if arguments == 0 {
+        return 0;
+    }
+    arguments as u64 + 1
+}
+
+/// How many digits a number has.
+#[tactic(auto, using(crate::proofs::RoomFacts::room_facts))]
+fn count_digits(number: u64) -> u64
+    ensures digits { result ≡ length (decimal number) }
+    ensures few { result ≤ 20 }
+{
+    let mut rest = number;
+    let mut digits: u64 = 1;
+    while rest >= 10 {
+        rest /= 10;
+        digits += 1;
+    }
+    digits
 }

@@ -65,6 +65,47 @@ fn terms_have_their_texts(rt: HostRuntime) -> Result<(), Fail> {
     Ok(())
 }
 
+fn check_room(
+    rt: &impl Abort,
+    alloc: Global,
+    names: &Names,
+    cells: &[Cell],
+    room: u64,
+    left: Option<u64>,
+) -> Result<(), Fail>
+    requires one { IsOneTerm cells.now }
+    requires named { HasNamesBelow (length names.now) (term_of cells.now) }
+{
+    let term = TermBuf::from_cells(alloc, cells)?;
+    assert_eq!(rt; room_behind(names, &term, room), left);
+    Ok(())
+}
+
+#[test]
+fn texts_take_room(rt: HostRuntime) -> Result<(), Fail> {
+    let alloc = rt.alloc();
+    let mut names = Names::new(alloc);
+    let f = names.intern(b"f")?;
+    let g = names.intern(b"aB_9")?;
+    check_room(&rt, alloc, &names, &[Cell::Eigen(0)], 9, Some(7))?;
+    check_room(&rt, alloc, &names, &[Cell::Bound(12)], 9, Some(6))?;
+    check_room(&rt, alloc, &names, &[Cell::Var(u64::MAX)], 20, None)?;
+    check_room(&rt, alloc, &names, &[Cell::Var(u64::MAX)], 21, Some(0))?;
+    check_room(&rt, alloc, &names, &[Cell::App(g, 0)], 3, None)?;
+    let cells = [
+        Cell::App(f, 3),
+        Cell::Eigen(1),
+        Cell::App(g, 2),
+        Cell::App(g, 0),
+        Cell::Var(2),
+        Cell::App(f, 1),
+        Cell::Bound(0),
+    ];
+    check_room(&rt, alloc, &names, &cells, 25, Some(0))?;
+    check_room(&rt, alloc, &names, &cells, 24, None)?;
+    Ok(())
+}
+
 /// An eigenvariable in so many applications of a name.
 fn nested(alloc: Global, name: NameId, depth: usize) -> Result<TermBuf, OutOfMemory>
     ensures { IfOk result (λ t. (n : ℕ) → name < n → HasNamesBelow n t) }
