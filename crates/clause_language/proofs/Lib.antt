@@ -34,3 +34,4 @@ pub mod RoundTrip
 pub mod ReadAs
 pub mod Joined
 pub mod Words
+pub mod AtomRoom
