@@ -1,13 +1,12 @@
 -- Files that were read are a program.
-use Rattle.std.proofs.Common.{◌≡◌, ℕ, ◌≤◌, false, List, [], ◌∷◌, ◌++◌, length, map, refl, ap, sym, subst, ◌∙◌, arith, append-nil, append_assoc, Option, Some}
+use Rattle.std.proofs.Common.{◌≡◌, ℕ, ◌≤◌, false, List, [], ◌∷◌, ◌++◌, length, refl, ap, sym, subst, ◌∙◌, arith, append-nil, append_assoc, Option, Some}
 use Rattle.std.specs.List.{All}
 use Rattle.std.proofs.lemmas.List.Elements.{All-nil, All-cons, All-append}
 use Rattle.fpc_base.specs.Lexeme.{Item}
 use Rattle.fpc_terms.specs.Name.{Agrees, AreDifferent, index_in}
 use Rattle.fpc_terms.specs.Open.{IsOpen, AreOpen}
-use Rattle.fpc_terms.specs.Printing.{HasNamesBelow}
 use Rattle.fpc_terms.specs.ReadTerm.{numbered}
-use Rattle.fpc_terms.specs.Term.{Term, Args, app, no_args, arg, count, Each, EachArg, Never}
+use Rattle.fpc_terms.specs.Term.{Term, count, Each, EachArg, Never}
 use Rattle.fpc_terms.specs.Text.{name_in}
 use Rattle.fpc_terms.specs.Written.{WrittenTerm, term_meant}
 use Rattle.fpc_terms.proofs.ReadFacts.{Agrees-index_in}
@@ -23,12 +22,12 @@ use Rattle.clause_language.specs.declared.declaration.DeclaredFormula.{DeclaredF
 use Rattle.clause_language.specs.declared.definition.Definition.{Definition}
 use Rattle.clause_language.specs.declared.program.Program.{Program}
 use Rattle.clause_language.specs.FileMachine.{is_other}
-use Rattle.clause_language.specs.Joined.{IsBare, JoinedIsProgram, DefinitionIsProgram}
+use Rattle.clause_language.specs.Joined.{JoinedIsProgram, DefinitionIsProgram}
 use Rattle.clause_language.specs.LeastModel.{AreOpenAtoms, IsOpenClause}
 use Rattle.clause_language.specs.Limits.{declared_names}
-use Rattle.clause_language.specs.Meant.{clause_meant, declaration_meant, clauses_meant, declared_meant, definition_meant, certificate_meant, term_variables}
+use Rattle.clause_language.specs.Meant.{clause_meant, declaration_meant, clauses_meant, declared_meant, term_variables}
 use Rattle.clause_language.specs.Naming.{AreClausesNamedBelow, AreDeclaredNamedBelow, IsDefinitionNamedBelow, IsCertificateNamedBelow}
-use Rattle.clause_language.specs.Order.{variables_to, variables_to_all, IsOrdered, AreOrdered, atoms_as_args, atoms_of}
+use Rattle.clause_language.specs.Order.{variables_to_all, AreOrdered, atoms_as_args, atoms_of}
 use Rattle.clause_language.specs.Printable.{AreNew, Below, declared_texts}
 use Rattle.clause_language.specs.Program.{HasFewArguments, HaveWords, IsDeclarationOf, IsJoined, IsOfFewArguments, IsProgram}
 use Rattle.clause_language.specs.ReadFile.{DefinitionIsRead, CertificateIsRead, names_of}
@@ -39,7 +38,7 @@ use Rattle.clause_language.proofs.ItemsMeant.{texts-declared}
 use Rattle.clause_language.proofs.MeantFacts.{few-args_meant, logic-formula_meant, scoped-formula_meant}
 use Rattle.clause_language.proofs.Parameters.{AreDifferent-none, AreDifferent-push}
 use Rattle.clause_language.proofs.ReadAs.{definition-read_as, certificate-read_as}
-use Rattle.clause_language.proofs.RoundTrip.{AreWithin, IsWithin, definition-passed, within-definition, certificate-passed, within-certificate, term_variables-texts}
+use Rattle.clause_language.proofs.RoundTrip.{definition-passed, within-definition, certificate-passed, within-certificate, term_variables-texts}
 use Rattle.clause_language.proofs.Sizes.{AreItemsSmall, texts_of_clause, written_atoms}
 use Rattle.clause_language.proofs.VariableOrder.{below-args, below-term, ordered-whole_args, ordered-whole_term}
 
@@ -228,6 +227,11 @@ certificate-second logic earlier names items c different r =
       new = subst (AreNew earlier) (sym texts) within.items.new;
       term_open = open-term_meant number w.term;
     })
+
+-- the certificate is of the logic that was expected
+pub certificate-logic : (logic : Logic) (earlier names : List (List ℕ)) (items : List Item) (c : Certificate) → AreDifferent names
+    → CertificateIsRead (Some logic) earlier items names c → c.logic ≡ logic
+certificate-logic logic earlier names items c different r = (certificate-second logic earlier names items c different r).of_logic
 
 pub joined-program : JoinedIsProgram
 joined-program expected names items others d c p different d_read c_read d_named c_named j words =

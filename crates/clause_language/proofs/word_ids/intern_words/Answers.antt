@@ -1,4 +1,4 @@
-use Rattle.std.proofs.Common.{◌≡◌, ℕ, ◌<◌, List, [], get_or, map, refl, subst, sym, arith}
+use Rattle.std.proofs.Common.{◌≡◌, ℕ, ◌<◌, List, [], get_or, refl, subst, sym, arith}
 use Rattle.fpc_terms.specs.Name.{IsName}
 use Rattle.fpc_terms.proofs.AddingFacts.{AddsOnly-same}
 use Rattle.clause_language.specs.Program.{IsWord, words}
