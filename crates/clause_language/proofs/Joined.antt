@@ -206,8 +206,8 @@ same-logic Ljf Ljf h = refl
 open-term_meant : (number : List ℕ → ℕ) (t : WrittenTerm) → IsOpen (length (term_variables t)) (term_meant number (numbered (index_in (term_variables t))) t)
 open-term_meant number t =
     subst (λ us. IsOpen (length us) (term_meant number (numbered (index_in us)) t)) (sym (term_variables-texts t)) (
-      let o = ordered-whole_term number t in
-      open-term _ _ (below-term _ _ 0 o.0 (omega (arith, o.1)))
+    let o = ordered-whole_term number t in
+    open-term _ _ (below-term _ _ 0 o.0 (omega (arith, o.1)))
     )
 
 certificate-second : (logic : Logic) (earlier names : List (List ℕ)) (items : List Item) (c : Certificate) → AreDifferent names

@@ -79,6 +79,7 @@ first-more texts old mid new ids k text id lt is h stands grows only = record {
   where
     within : k < length ids
     within = let e = h.count in omega (arith, e, lt)
+
     each : (i : ℕ) → i < k + 1 → slice_get new (get_or (set ids k id) i 0) ≡ Some (get_or texts i [])
     each i below = by_test (nat_eq i k) refl where
       by_test : (b : Bool) → nat_eq i k ≡ b → slice_get new (get_or (set ids k id) i 0) ≡ Some (get_or texts i [])

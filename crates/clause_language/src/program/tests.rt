@@ -59,7 +59,10 @@ fn the_certificate_stands_behind_the_definition(rt: HostRuntime) -> Result<(), F
     assert_eq!(rt; program.logic, Logic::Ljf);
     check_declared(&rt, program.declared.items(), &[f, g, h]);
     check_heads(&rt, program.clauses.items(), &[p, left, r]);
-    assert_eq!(rt; program.term.cells(), [Cell::App(s, 2), Cell::Var(0), Cell::Var(1)].as_slice());
+    assert_eq!(rt;
+        program.term.cells(),
+        [Cell::App(s, 2), Cell::Var(0), Cell::Var(1)].as_slice()
+    );
     assert_eq!(rt; program.variables, 2);
     assert_eq!(rt; program.ids.left, left);
     Ok(())
