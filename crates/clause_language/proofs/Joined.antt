@@ -1,9 +1,10 @@
 -- Files that were read are a program.
-use Rattle.std.proofs.Common.{◌≡◌, ℕ, ◌≤◌, false, List, [], ◌∷◌, ◌++◌, length, refl, ap, sym, subst, ◌∙◌, arith, append-nil, append_assoc, Option, Some}
+use Rattle.std.proofs.Common.{◌≡◌, ℕ, ◌<◌, ◌≤◌, false, List, [], ◌∷◌, ◌++◌, length, refl, ap, sym, subst, ◌∙◌, arith, append-nil, append_assoc, Option, Some}
 use Rattle.std.specs.List.{All}
 use Rattle.std.proofs.lemmas.List.Elements.{All-nil, All-cons, All-append}
+use Rattle.std.proofs.lemmas.Option.{get_or_from_slice_get, slice_get-get_or}
 use Rattle.fpc_base.specs.Lexeme.{Item}
-use Rattle.fpc_terms.specs.Name.{Agrees, AreDifferent, index_in}
+use Rattle.fpc_terms.specs.Name.{Agrees, AreDifferent, Grows, index_in}
 use Rattle.fpc_terms.specs.Open.{IsOpen, AreOpen}
 use Rattle.fpc_terms.specs.ReadTerm.{numbered}
 use Rattle.fpc_terms.specs.Term.{Term, count, Each, EachArg, Never}
@@ -33,6 +34,7 @@ use Rattle.clause_language.specs.Program.{HasFewArguments, HaveWords, IsDeclarat
 use Rattle.clause_language.specs.ReadFile.{DefinitionIsRead, CertificateIsRead, names_of}
 use Rattle.clause_language.specs.Text.{args_of}
 use Rattle.clause_language.specs.Written.{AreItemsOf, WrittenClause, WrittenItem, declaration, a_clause}
+use Rattle.clause_language.proofs.FileNames.{definition-below, certificate-below}
 use Rattle.clause_language.proofs.ClauseMeant.{clause-meant, clause_variables-texts}
 use Rattle.clause_language.proofs.ItemsMeant.{texts-declared}
 use Rattle.clause_language.proofs.MeantFacts.{few-args_meant, logic-formula_meant, scoped-formula_meant}
@@ -249,3 +251,40 @@ definition-program expected names items d any c p different d_read d_named lt ba
     let term_open : IsOpen c.variables c.term = rw bare.term tt in
     let c_named : IsCertificateNamedBelow (length names) c = rw (bare.declared, bare.clauses, bare.term) (tt, tt, (lt, tt)) in
     joined names d c p first.part second (different-new (names_of names d.declared) (names_of names c.declared) first.different names_new) term_open d_named c_named j words
+
+-- LATER: what was read stands, as the table grows
+pub definition-grown : (expected : Option Logic) (items : List Item) (old new : List (List ℕ)) (d : Definition) → Grows old new → DefinitionIsRead expected items old d
+    → DefinitionIsRead expected items new d
+definition-grown expected items old new d grows r = record {
+  written = r.written;
+  reads = r.reads;
+  meant = λ number agrees. r.meant number (λ k text e. agrees k text (grows k text e));
+}
+
+pub certificate-grown : (expected : Option Logic) (earlier : List (List ℕ)) (items : List Item) (old new : List (List ℕ)) (c : Certificate) → Grows old new
+    → CertificateIsRead expected earlier items old c → CertificateIsRead expected earlier items new c
+certificate-grown expected earlier items old new c grows r = record {
+  written = r.written;
+  reads = r.reads;
+  meant = λ number agrees. r.meant number (λ k text e. agrees k text (grows k text e));
+}
+
+name_in-grown : (old new : List (List ℕ)) (k : ℕ) → Grows old new → k < length old → name_in new k ≡ name_in old k
+name_in-grown old new k grows lt = get_or_from_slice_get new k (name_in old k) [] (grows k (name_in old k) (slice_get-get_or old k [] lt))
+
+pub names_of-grown : (old new : List (List ℕ)) (ds : List DeclaredFormula) → Grows old new → AreDeclaredNamedBelow (length old) ds → names_of new ds ≡ names_of old ds
+names_of-grown old new [] grows h = refl
+names_of-grown old new (d ∷ ds) grows h = rw (name_in-grown old new d.name grows h.0.0, names_of-grown old new ds grows h.1) refl
+
+-- files that were read one after the other, by the table after all
+pub joined-later : (expected : Option Logic) (first second names : List (List ℕ)) (items others : List Item) (d : Definition) (c : Certificate) (p : Program) → AreDifferent names
+    → DefinitionIsRead expected items first d → IsDefinitionNamedBelow (length first) d → Grows first second
+    → CertificateIsRead (Some d.logic) (names_of first d.declared) others second c → Grows second names → IsJoined d c p → HaveWords names p.ids → IsProgram names p
+joined-later expected first second names items others d c p different d_read named grows c_read more j words =
+    let all : Grows first names = λ k text e. more k text (grows k text e) in
+    let d_later = definition-grown expected items first names d all d_read in
+    let earlier : names_of first d.declared ≡ names_of names d.declared = sym (names_of-grown first names d.declared all named.0) in
+    let c_later = subst (λ taken. CertificateIsRead (Some d.logic) taken others names c) earlier
+    (certificate-grown (Some d.logic) (names_of first d.declared) others second names c more c_read) in
+    joined-program expected names items others d c p different d_later c_later
+    (definition-below names different d_later.written d d_later.meant) (certificate-below names different c_later.written c c_later.meant) j words
