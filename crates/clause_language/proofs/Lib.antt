@@ -35,3 +35,6 @@ pub mod ReadAs
 pub mod LeastModelFacts
 pub mod AtomReading
 pub mod AtomFacts
+pub mod Joined
+pub mod Words
+pub mod AtomRoom

@@ -21,3 +21,4 @@ pub mod LeastModel
 pub mod Program
 pub mod ReadAtom
 pub mod HoldingAtom
+pub mod Joined

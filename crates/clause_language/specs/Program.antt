@@ -1,5 +1,5 @@
 -- The words that the search reads, and programs: a definition with a certificate.
-use Rattle.std.specs.Prelude.{◌≡◌, ℕ, ◌<◌, ◌≤◌, List, [], ◌∷◌, ◌++◌, map, length, codes, Contains}
+use Rattle.std.specs.Prelude.{◌≡◌, ℕ, ◌≤◌, List, [], ◌∷◌, ◌++◌, map, length, codes, Contains}
 use Rattle.std.specs.List.{All}
 use Rattle.fpc_terms.specs.Name.{AreDifferent}
 use Rattle.fpc_terms.specs.Open.{IsOpen}

@@ -44,6 +44,15 @@ impl Declared {
         Ok(())
     }
 
+    /// Moves the declared formulas of another list behind those of this one. Time is linear in their number.
+    pub fn append(&mut self, mut other: Declared) -> Result<(), OutOfMemory>
+        ensures ok { OnOk result (self.new ≡ self.old ++ other) }
+        ensures err { OnErr result (self.new ≡ self.old) }
+    {
+        self.items.append(&mut other.items)?;
+        Ok(())
+    }
+
     /// How many declared formulas there are.
     pub fn len(&self) -> usize
         ensures { result ≡ length self.now }

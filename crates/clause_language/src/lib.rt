@@ -27,7 +27,7 @@ pub use clause_list::Clauses;
 pub use declaration::DeclaredFormula;
 pub use declaration_list::Declared;
 pub use definition::Definition;
-pub use print::{print_atom, print_certificate, print_definition};
+pub use print::{atom_room, print_atom, print_certificate, print_definition};
 pub use program::{Program, join};
 pub use read::{read_certificate, read_definition};
 pub use single_atom::read_atom;

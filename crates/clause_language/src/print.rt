@@ -1,6 +1,7 @@
 //! Definitions and certificates as texts.
-ghost use Rattle.std.specs.Prelude.{◌≡◌, ◌<◌, ◌++◌, ◌∷◌, [], OnOk, IfOk, length};
-ghost use Rattle.fpc_terms.specs.Text.{name_in, plain_leaves, more_before, args_before};
+ghost use Rattle.std.specs.Prelude.{◌≡◌, ◌<◌, ◌+◌, ◌++◌, ◌∷◌, [], OnOk, IfOk, length};
+ghost use Rattle.fpc_terms.specs.Text.{name_in, plain_leaves, more_before, args_before, term_text, room_left};
+ghost use Rattle.fpc_terms.specs.Printing.{HasNamesBelow};
 ghost use Rattle.polarised_formulas.specs.Text.{logic_text};
 ghost use Rattle.clause_language.specs.Text.{args_of, atom_before, more_atoms_before, body_before, clause_before, parameters_before, declaration_before, declared_before, clauses_before, file_before, definition_text, certificate_text};
 ghost use Rattle.clause_language.specs.Naming.{AreTermsNamedBelow, IsAtomNamedBelow, AreAtomsNamedBelow, IsClauseNamedBelow, AreClausesNamedBelow, IsDeclarationNamedBelow, AreDeclaredNamedBelow, IsDefinitionNamedBelow, IsCertificateNamedBelow};
@@ -15,7 +16,7 @@ use crate::declaration::DeclaredFormula;
 use crate::definition::Definition;
 use fpc_base::outside::OutOfMemory;
 use fpc_terms::names::Names;
-use fpc_terms::print::{print_term, push_name, push_number};
+use fpc_terms::print::{print_term, push_name, push_number, room_behind};
 use fpc_terms::term::TermBuf;
 use polarised_formulas::logic::Logic;
 use polarised_formulas::print::push_named_formula;
@@ -252,4 +253,36 @@ fn push_more_arguments(
         print_term(alloc, names, term, out)?;
     }
     Ok(out.push(b')')?)
+}
+
+/// The room that is left behind the text of an atom, where the text fits. It takes no memory. Time is linear in the atom's size.
+pub fn atom_room(names: &Names, atom: &Atom, room: u64) -> Option<u64>
+    requires { IsAtomNamedBelow (length names.now) atom.now }
+    ensures { result ≡ room_left room (length (atom_before names.now atom.now [])) }
+{
+    let left = room.checked_sub(names.text(atom.name).len() as u64)?;
+    room_behind_arguments(names, atom.arguments.items(), left)
+}
+
+/// The room that is left behind arguments, in parentheses where there are any.
+fn room_behind_arguments(names: &Names, arguments: &[TermBuf], room: u64) -> Option<u64>
+    requires { AreTermsNamedBelow (length names.now) arguments.now }
+    ensures { result ≡ room_left room (length (args_before (plain_leaves (name_in names.now)) (args_of arguments.now) [])) }
+{
+    if arguments.is_empty() {
+        return Some(room);
+    }
+    let mut left = room;
+    for term in arguments {
+        left = room_behind_argument(names, term, left)?;
+    }
+    left.checked_sub(1)
+}
+
+/// The room that is left behind an argument and the parenthesis or comma before it.
+fn room_behind_argument(names: &Names, term: &TermBuf, room: u64) -> Option<u64>
+    requires { HasNamesBelow (length names.now) term.now }
+    ensures { result ≡ room_left room (1 + length (term_text names.now term.now)) }
+{
+    room_behind(names, term, room.checked_sub(1)?)
 }

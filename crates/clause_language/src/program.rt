@@ -4,6 +4,9 @@ ghost use Rattle.fpc_terms.specs.Name.{Grows};
 ghost use Rattle.fpc_terms.specs.Adding.{AddsOnly};
 ghost use Rattle.clause_language.specs.Program.{IsJoined, HaveWords, IsWord};
 
+#[cfg(test)]
+mod tests;
+
 use crate::certificate::Certificate;
 use crate::clause_list::Clauses;
 use crate::declaration_list::Declared;
@@ -40,5 +43,17 @@ pub fn join(
     ensures names { Grows names.old names.new }
     ensures only { AddsOnly IsWord names.old names.new }
 {
-    Err(OutOfMemory)
+    let ids = WordIds::new(names)?;
+    let mut declared = definition.declared;
+    declared.append(certificate.declared)?;
+    let mut clauses = definition.clauses;
+    clauses.append(certificate.clauses)?;
+    Ok(Program {
+        logic: definition.logic,
+        declared,
+        clauses,
+        term: certificate.term,
+        variables: certificate.variables,
+        ids,
+    })
 }

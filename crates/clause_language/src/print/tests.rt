@@ -188,3 +188,35 @@ fn definitions_and_certificates_are_printed(rt: HostRuntime) -> Result<(), Fail>
         b"ljf\nformula q := ff.\nformula p(P0,P1) := all X0 : (-p(X0,P1) | +q(P0)).\nq.\np(V0,p(V1,V0)) :- q, p(V1,q(V2)).\ncertificate q(V0).\n",
     )
 }
+
+/// What is left of some room behind the atom `p(V0,p(V1,V0))`, and of as much behind `q`.
+fn check_room(
+    rt: &impl Abort,
+    alloc: Global,
+    names: &Names,
+    p: NameId,
+    q: NameId,
+    room: u64,
+    left: (Option<u64>, Option<u64>),
+) -> Result<(), Fail>
+    requires p { p < length names.now }
+    requires q { q < length names.now }
+{
+    let second = [Cell::App(p, 2), Cell::Var(1), Cell::Var(0)];
+    let atom = applied(alloc, p, &[Cell::Var(0)], &second)?;
+    assert_eq!(rt; atom_room(names, &atom, room), left.0);
+    assert_eq!(rt; atom_room(names, &bare(alloc, q), room), left.1);
+    Ok(())
+}
+
+#[test]
+fn atoms_take_room(rt: HostRuntime) -> Result<(), Fail> {
+    let alloc = rt.alloc();
+    let mut names = Names::new(alloc);
+    let p = names.intern(b"p")?;
+    let q = names.intern(b"q_is_longer")?;
+    check_room(&rt, alloc, &names, p, q, 14, (Some(0), Some(3)))?;
+    check_room(&rt, alloc, &names, p, q, 13, (None, Some(2)))?;
+    check_room(&rt, alloc, &names, p, q, 11, (None, Some(0)))?;
+    check_room(&rt, alloc, &names, p, q, 10, (None, None))
+}
