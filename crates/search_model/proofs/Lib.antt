@@ -17,3 +17,8 @@ pub mod NamesKept
 pub mod OneSolution
 pub mod SameReadings
 pub mod OneReading
+pub mod StateFacts
+pub mod CallFacts
+pub mod ComparisonFacts
+pub mod WalkFacts
+pub mod LoopFacts

@@ -3,3 +3,4 @@ pub mod Search
 pub mod Lawful
 pub mod Solve
 pub mod Renaming
+pub mod States

@@ -1,6 +1,10 @@
 //! The search that gives definition and certificate files their meaning.
 #![tactic(auto)]
 
+mod alternative;
+mod calls;
+mod comparison;
 pub mod solve;
+mod walk;
 
 pub use solve::{Solved, plain_solve};

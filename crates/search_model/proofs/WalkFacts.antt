@@ -1,0 +1,108 @@
+-- The walk through cells is the walk of the search.
+use Rattle.std.specs.Prelude.{◌≡◌, ℕ, zero, suc, ◌+◌, ◌-◌, ◌≤◌, Bool, true, false, if◌then◌else◌, List, [], ◌∷◌, refl, Some, Option}
+use Rattle.std.proofs.Common.{ap, ap₂, ◌∙◌, sym, arith}
+use Rattle.fpc_terms.specs.declared.cell.Cell.{Cell}
+use Rattle.fpc_terms.specs.Equality.{unless, walked_node}
+use Rattle.fpc_terms.specs.Open.{Level, level_of}
+use Rattle.fpc_terms.specs.Term.{Term, Args, eigen, bound, variable, app, no_args, arg, joined, cells_before, all_before, cells_of}
+use Rattle.clause_language.specs.declared.clause.Clause.{Clause}
+use Rattle.search_model.specs.Run.{Ending, ended, spent, one_more}
+use Rattle.search_model.specs.Search.{Alternative, Answer, State, between, bound_to, walked_on, walking, behind_node}
+use Rattle.search_model.specs.Solve.{Nothing, no_calculus}
+use Rattle.search_model.specs.States.{args_in, first_cell, is_clash, walk_through, raise, running}
+use Rattle.search_model.specs.declared.walk.Walked.{Walked}
+use Rattle.search_model.specs.declared.walk.Walked.TheVariants.{Passed, Clashed, OutOfUnits}
+
+raise-one : {R : Type 0} → (e : Ending R) → raise 1 e ≡ one_more e
+raise-one (ended r u) = ap (ended r) (omega arith)
+raise-one spent = refl
+
+-- no units more
+pub raise-none : {R : Type 0} → (e : Ending R) → raise 0 e ≡ e
+raise-none (ended r u) = ap (ended r) (omega arith)
+raise-none spent = refl
+
+-- so many units more, and one
+pub raise-more : {R : Type 0} → (k : ℕ) (e : Ending R) → one_more (raise k e) ≡ raise (suc k) e
+raise-more k (ended r u) = ap (ended r) (omega arith)
+raise-more k spent = refl
+
+-- one unit more, and so many
+pub raise-one-more : {R : Type 0} → (k : ℕ) (e : Ending R) → raise k (one_more e) ≡ raise (suc k) e
+raise-one-more k (ended r u) = ap (ended r) (omega arith)
+raise-one-more k spent = refl
+
+-- some units more, and some more
+pub raise-raise : {R : Type 0} → (j k : ℕ) (e : Ending R) → raise j (raise k e) ≡ raise (j + k) e
+raise-raise j k (ended r u) = ap (ended r) (omega arith)
+raise-raise j k spent = refl
+
+node-is : (v : ℕ) (l : Level) (x : Term) → walked_node v l x ≡ unless (is_clash v l (first_cell x)) (args_in x)
+node-is v l (eigen m) = refl
+node-is v l (bound k) = refl
+node-is v l (variable n) = refl
+node-is v l (app f ts) = refl
+
+cells-first : (x : Term) (cells : List Cell) → cells_before x cells ≡ first_cell x ∷ all_before (args_in x) cells
+cells-first (eigen m) cells = refl
+cells-first (bound k) cells = refl
+cells-first (variable n) cells = refl
+cells-first (app f ts) cells = refl
+
+all-joined : (ts us : Args) (cells : List Cell) → all_before (joined ts us) cells ≡ all_before ts (all_before us cells)
+all-joined no_args us cells = refl
+all-joined (arg t ts) us cells = ap (cells_before t) (all-joined ts us cells)
+
+module _ (v : ℕ) (l : Level) where
+  -- a walk leaves no more units than there were
+  pub walk-le : (cells : List Cell) (n : ℕ) → (walk_through v l cells n).1 ≤ n
+  walk-le [] n = omega arith
+  walk-le (c ∷ cells) zero = omega arith
+  walk-le (c ∷ cells) (suc n) = at-node (is_clash v l c) (walk-le cells n)
+    where
+      at-node : (b : Bool) → (walk_through v l cells n).1 ≤ n → (if b then (Clashed, n) else walk_through v l cells n).1 ≤ suc n
+      at-node true le = omega arith
+      at-node false le = omega (arith, le)
+
+module _ (clauses : List Clause) (v : ℕ) (t : Term) (a : Alternative Nothing Nothing) (others : List (Alternative Nothing Nothing)) where
+  -- the run behind a walk that had n units
+  abbrev pub goes_on : ℕ → Walked × ℕ → Ending (Answer Nothing Nothing)
+  goes_on n (Passed, m) = raise (n - m) (running clauses m (between (bound_to no_calculus v t a ∷ others)))
+  goes_on n (Clashed, m) = raise (n - m) (running clauses m (between others))
+  goes_on n (OutOfUnits, m) = spent
+
+  one-more : (n : ℕ) (w : Walked) (m : ℕ) → m ≤ n → one_more (goes_on n (w, m)) ≡ goes_on (suc n) (w, m)
+  one-more n Passed m le = raise-more (n - m) _ ∙ ap (λ k. raise k (running clauses m (between (bound_to no_calculus v t a ∷ others)))) (omega (arith, le))
+  one-more n Clashed m le = raise-more (n - m) _ ∙ ap (λ k. raise k (running clauses m (between others))) (omega (arith, le))
+  one-more n OutOfUnits m le = refl
+
+  at-node : (n : ℕ) (x : Term) (xs : Args) (b : Bool)
+      → ((ys : Args) → running clauses n (walked_on no_calculus v t ys a others) ≡ goes_on n (walk_through v (level_of a.levels v) (all_before ys []) n))
+      → one_more (running clauses n (behind_node no_calculus v t (unless b (args_in x)) xs a others))
+        ≡ goes_on (suc n) (if b then (Clashed, n) else walk_through v (level_of a.levels v) (all_before (args_in x) (all_before xs [])) n)
+  at-node n x xs true runs = sym (raise-one _) ∙ ap (λ k. raise k (running clauses n (between others))) (omega arith)
+  at-node n x xs false runs =
+      ap one_more (runs (joined (args_in x) xs) ∙ ap (λ cells. goes_on n (walk_through v (level_of a.levels v) cells n)) (all-joined (args_in x) xs []))
+          ∙ one-more n _ _ (walk-le v (level_of a.levels v) (all_before (args_in x) (all_before xs [])) n)
+
+  -- the walk of the search ends as the walk through the cells
+  pub walk-runs : (n : ℕ) (xs : Args) → running clauses n (walked_on no_calculus v t xs a others) ≡ goes_on n (walk_through v (level_of a.levels v) (all_before xs []) n)
+  walk-runs n no_args = sym (raise-none _) ∙ ap (λ k. raise k (running clauses n (between (bound_to no_calculus v t a ∷ others)))) (omega arith)
+  walk-runs zero (arg x xs) = rw (cells-first x (all_before xs [])) refl
+  walk-runs (suc n) (arg x xs) =
+      rw (cells-first x (all_before xs []), node-is v (level_of a.levels v) x)
+          (at-node n x xs (is_clash v (level_of a.levels v) (first_cell x)) (λ ys. walk-runs n ys))
+
+  -- the walk through a whole term
+  pub term-runs : (n : ℕ) → running clauses n (walking v t t no_args a others) ≡ goes_on n (walk_through v (level_of a.levels v) (cells_of t) n)
+  term-runs n = walk-runs n (arg t no_args)
+
+  -- the same, from the end and the units that are left
+  pub step-runs : (n : ℕ) (l : Level) (cells : List Cell) (w : Walked) (m : ℕ) → l ≡ level_of a.levels v → cells ≡ cells_of t
+      → w ≡ (walk_through v l cells n).0 → m ≡ (walk_through v l cells n).1 → running clauses n (walking v t t no_args a others) ≡ goes_on n (w, m)
+  step-runs n l cells w m at are ends left =
+      term-runs n ∙ ap₂ (λ k cs. goes_on n (walk_through v k cs n)) (sym at) (sym are) ∙ ap₂ (λ e k. goes_on n (e, k)) (sym ends) (sym left)
+
+-- a run that took no units
+pub at-once : (clauses : List Clause) (n : ℕ) (q r : State Nothing Nothing) → q ≡ r → running clauses n q ≡ raise (n - n) (running clauses n r)
+at-once clauses n q r same = ap (running clauses n) same ∙ sym (raise-none _) ∙ ap (λ k. raise k (running clauses n r)) (omega arith)

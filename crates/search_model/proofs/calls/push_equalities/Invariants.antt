@@ -1,0 +1,10 @@
+use Rattle.std.proofs.Common.{◌≡◌, ◌≤◌, drop, length}
+use Rattle.search_model.specs.Search.{equalities}
+use Rattle.search_model.specs.States.{goals_of}
+use Rattle.search_model.proofs.calls.push_equalities.Given as goal
+
+abbrev pub invariant-loop-n : goal.invariant-loop-n
+invariant-loop-n l = (goals_of l.goals.items ≡ equalities (drop l.n l.left) (drop l.n l.right) (goals_of l.initial.goals.items)) × (l.n ≤ length l.left)
+
+abbrev pub decreases-loop-n : goal.decreases-loop-n
+decreases-loop-n l = l.n
