@@ -84,3 +84,8 @@ IsRight clauses asked (Accepted a units) = IsSound clauses asked a
 IsRight clauses asked (Rejected units) = (s : ℕ → Term) → ((n : ℕ) → IsGround (s n)) → ¬ (Holds clauses (put_atom s asked))
 IsRight clauses asked Spent = Unit {0}
 IsRight clauses asked TooLong = Unit {0}
+
+-- An outcome with so many units is the same within each budget that has them, and within no smaller budget is there an outcome.
+abbrev pub OutcomeIsSettled : Type 0
+OutcomeIsSettled = (clauses : List Clause) (a : Atom) (variables budget units : ℕ) (answer : Answer Nothing Nothing) → solving clauses budget a variables ≡ ended answer units
+    → ((more : ℕ) → units ≤ more → solving clauses more a variables ≡ ended answer units) × ((fewer : ℕ) → fewer < units → solving clauses fewer a variables ≡ spent)

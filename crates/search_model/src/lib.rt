@@ -4,6 +4,7 @@
 mod alternative;
 mod calls;
 mod comparison;
+pub mod laws;
 pub mod solve;
 mod walk;
 

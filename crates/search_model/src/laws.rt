@@ -1,0 +1,14 @@
+//! Laws over the definition of the search, each the contract of a function with nothing to run.
+ghost use Rattle.search_model.specs.Renaming.{AnsweredOnce, SolvedOnce};
+ghost use Rattle.search_model.specs.Solve.{OutcomeIsSettled};
+
+/// A search that ends with some units ends so within each budget that has them, and is spent within each smaller one.
+pub fn outcome_is_settled()
+    ensures { OutcomeIsSettled }
+{}
+
+/// The answer to an atom hangs on what the program and the atom say, and on no numbering of their names.
+pub fn one_solution()
+    ensures solved { SolvedOnce }
+    ensures answered { AnsweredOnce }
+{}
