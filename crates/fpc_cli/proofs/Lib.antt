@@ -2,5 +2,8 @@ pub mod PrintedForms
 pub mod Contents
 pub mod FormatAnswer
 pub mod FormatDue
+pub mod SolveFacts
+pub mod SolveAnswer
+pub mod SolveDue
 pub mod RunFacts
 pub mod OneAnswer
