@@ -63,7 +63,7 @@ module _ (number : List ℕ → ℕ) (variables : List (List ℕ)) where
   atoms-meant [] = refl
   atoms-meant (a ∷ more) = rw (args_of-terms_in (args_meant number (numbered (index_in variables)) a.args), atoms-meant more) refl
 
-clause-meant : (number : List ℕ → ℕ) (c : WrittenClause) → atoms_of (clause_meant number c) ≡ args_meant number (numbered (index_in (texts_of_clause c))) (written_atoms c)
+pub clause-meant : (number : List ℕ → ℕ) (c : WrittenClause) → atoms_of (clause_meant number c) ≡ args_meant number (numbered (index_in (texts_of_clause c))) (written_atoms c)
 clause-meant number c =
     atoms-meant number (clause_variables c) (c.head ∷ c.body) ∙ ap (λ vs. args_meant number (numbered (index_in vs)) (written_atoms c)) (clause_variables-texts c)
 

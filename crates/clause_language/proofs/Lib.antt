@@ -32,3 +32,4 @@ pub mod NamesSaid
 pub mod ItemsMeant
 pub mod RoundTrip
 pub mod ReadAs
+pub mod Joined

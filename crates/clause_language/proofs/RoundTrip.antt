@@ -41,10 +41,10 @@ use Rattle.clause_language.proofs.FileScan.{Says-definition_text, Says-certifica
 use Rattle.clause_language.proofs.NamesSaid.{EachNameOfItems-said, EachName-said_term}
 
 -- what passed of the items of a file
-record AreWithin (expected : Option Logic) (earlier : List (List ℕ)) (logic : Logic) (items : List WrittenItem) : Type 0 where
-  is_expected : is_other expected logic ≡ false
-  small : AreItemsSmall items
-  new : AreNew earlier (declared_names items)
+pub record AreWithin (expected : Option Logic) (earlier : List (List ℕ)) (logic : Logic) (items : List WrittenItem) : Type 0 where
+  pub is_expected : is_other expected logic ≡ false
+  pub small : AreItemsSmall items
+  pub new : AreNew earlier (declared_names items)
 
 -- items within the limits that were read mean items within the limits
 printable-items : (expected : Option Logic) (earlier names : List (List ℕ)) (number : List ℕ → ℕ) → Agrees number names → (logic : Logic) (items : List WrittenItem)
@@ -82,13 +82,13 @@ definition-text_read expected names number d agrees p =
       meant = rw (declared_meant-spelled names number agrees d.logic d.declared d.clauses formulas, clauses_meant-spelled names number agrees d.declared d.clauses rules) refl;
     }
 
-definition-passed : (expected : Option Logic) (items : List Item) (w : WrittenDefinition) → ReadsAll IsDefinition (DefinitionLimits expected) [] items w
+pub definition-passed : (expected : Option Logic) (items : List Item) (w : WrittenDefinition) → ReadsAll IsDefinition (DefinitionLimits expected) [] items w
     → IsPassed kind.Definition expected [] IsDefinition [] items w
 definition-passed expected items w read =
     passes-read kind.Definition expected [] IsDefinition (DefinitionLimits expected)
     (λ before c k. (definition_taken-told expected before c (step kind.Definition (file_behind kind.Definition before) c)).1 (k, refl)) [] items w read
 
-within-definition : (expected : Option Logic) (items : List Item) (w : WrittenDefinition) → IsPassed kind.Definition expected [] IsDefinition [] items w
+pub within-definition : (expected : Option Logic) (items : List Item) (w : WrittenDefinition) → IsPassed kind.Definition expected [] IsDefinition [] items w
     → AreWithin expected [] w.logic w.items
 within-definition expected items w p =
     let word = passed-word kind.Definition expected [] p.state w.logic (items_tokens w.logic w.items [])
@@ -114,7 +114,7 @@ definition-read_back expected names number bytes d agrees r =
     definition-text_read expected names number d agrees (definition-printable expected names number bytes d agrees r)
 
 -- CERTIFICATES
-term_variables-texts : (t : WrittenTerm) → term_variables t ≡ texts_to t []
+pub term_variables-texts : (t : WrittenTerm) → term_variables t ≡ texts_to t []
 term_variables-texts t = variables_in-term t [] []
 
 term_variables-spelled : (names : List (List ℕ)) (t : Term) (n : ℕ) → IsOrdered t 0 → variables_to t 0 ≡ n → n < 2 ^ 64 → term_variables (spelled_term names t) ≡ numbered_texts n
@@ -151,17 +151,17 @@ certificate-text_read expected earlier names number c agrees lt p =
     }
 
 -- what passed of a certificate
-record IsWithin (expected : Option Logic) (earlier : List (List ℕ)) (w : WrittenCertificate) : Type 0 where
-  items : AreWithin expected earlier w.logic w.items
-  small : IsSmall w.term
+pub record IsWithin (expected : Option Logic) (earlier : List (List ℕ)) (w : WrittenCertificate) : Type 0 where
+  pub items : AreWithin expected earlier w.logic w.items
+  pub small : IsSmall w.term
 
-certificate-passed : (expected : Option Logic) (earlier : List (List ℕ)) (items : List Item) (w : WrittenCertificate)
+pub certificate-passed : (expected : Option Logic) (earlier : List (List ℕ)) (items : List Item) (w : WrittenCertificate)
     → ReadsAll IsCertificate (CertificateLimits expected earlier) [] items w → IsPassed kind.Certificate expected earlier IsCertificate [] items w
 certificate-passed expected earlier items w read =
     passes-read kind.Certificate expected earlier IsCertificate (CertificateLimits expected earlier)
     (λ before c k. (certificate_taken-told expected earlier before c (step kind.Certificate (file_behind kind.Certificate before) c)).1 (k, refl)) [] items w read
 
-within-certificate : (expected : Option Logic) (earlier : List (List ℕ)) (items : List Item) (w : WrittenCertificate)
+pub within-certificate : (expected : Option Logic) (earlier : List (List ℕ)) (items : List Item) (w : WrittenCertificate)
     → IsPassed kind.Certificate expected earlier IsCertificate [] items w → IsWithin expected earlier w
 within-certificate expected earlier items w p =
     let last : List Lexeme = a_sign sign.Certificate ∷ term_tokens w.term (a_sign sign.Dot ∷ []) in

@@ -20,3 +20,4 @@ pub mod ReadAs
 pub mod LeastModel
 pub mod Program
 pub mod ReadAtom
+pub mod Joined

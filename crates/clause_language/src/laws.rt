@@ -2,6 +2,7 @@
 ghost use Rattle.clause_language.specs.RoundTrip.{CertificateIsReadBack, CertificateTextIsRead, DefinitionIsReadBack, DefinitionTextIsRead, ReadCertificateIsPrintable, ReadDefinitionIsPrintable};
 ghost use Rattle.clause_language.specs.OneAnswer.{CertificateIsNotBoth, CertificateIsReadOnce, CertificateIsRefusedOnce, DefinitionIsNotBoth, DefinitionIsReadOnce, DefinitionIsRefusedOnce};
 ghost use Rattle.clause_language.specs.ReadAs.{ReadCertificateIsAs, ReadDefinitionIsAs};
+ghost use Rattle.clause_language.specs.Joined.{DefinitionIsProgram, JoinedIsProgram};
 
 /// A file is read as one definition or certificate, or it is refused as one in one way, and not both.
 pub fn one_answer()
@@ -24,4 +25,11 @@ pub fn files_are_read_back()
     ensures certificate_printed { CertificateTextIsRead }
     ensures certificate_printable { ReadCertificateIsPrintable }
     ensures certificate_back { CertificateIsReadBack }
+{}
+
+/// A definition and a certificate of its logic that were read, joined, are what a search asks of a program; and so is the definition with the
+/// certificate that adds nothing.
+pub fn joined_files_are_programs()
+    ensures joined { JoinedIsProgram }
+    ensures alone { DefinitionIsProgram }
 {}
