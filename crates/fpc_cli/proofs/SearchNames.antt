@@ -106,13 +106,11 @@ module _ (n : ℕ) where
   clauses-below : (a : Way) → WayBelow a → (b : Atom) → AreTermsNamedBelow n b.arguments → (k : ℕ) (clauses : List Clause) → AreClausesNamedBelow n clauses
       → (others : List Way) → WaysBelow others → WaysBelow (map (extended a) (by_clauses no_calculus b k clauses) ++ others)
   clauses-below a h b low k [] named others below = below
-  clauses-below a h b low k (c ∷ cs) named others below = by (fits b c.head) where
-    rest : WaysBelow (map (extended a) (by_clauses no_calculus b k cs) ++ others)
-    rest = clauses-below a h b low k cs named.1 others below
-
-    by : (fit : Bool) → WaysBelow (map (extended a) (where_it_fits no_calculus fit (by_clause no_calculus b k c) (by_clauses no_calculus b k cs)) ++ others)
-    by true = (extended-below a (by_clause no_calculus b k c) h (clause-below b k c low named.0), rest)
-    by false = rest
+  clauses-below a h b low k (c ∷ cs) named others below = by (fits b c.head) (clauses-below a h b low k cs named.1 others below) where
+    by : (fit : Bool) → WaysBelow (map (extended a) (by_clauses no_calculus b k cs) ++ others)
+        → WaysBelow (map (extended a) (where_it_fits no_calculus fit (by_clause no_calculus b k c) (by_clauses no_calculus b k cs)) ++ others)
+    by true rest = (extended-below a (by_clause no_calculus b k c) h (clause-below b k c low named.0), rest)
+    by false rest = rest
 
   -- what an equality comes to
   abbrev EqualityBelow : Equality → Type 0

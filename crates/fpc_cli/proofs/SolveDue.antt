@@ -8,7 +8,7 @@ use Rattle.fpc_cli.specs.declared.answer.Role.TheVariants.{Definition, Atom}
 use Rattle.fpc_cli.specs.DueSolve.{IsSolveGiven, IsWholeAtom, SearchIsGiven, SolveRefusalIsGiven, AtomRefusalIsGiven, SolveMissingIsGiven}
 use Rattle.fpc_cli.specs.Held.{MayHold}
 use Rattle.fpc_cli.specs.OneAnswer.{IsKnown, IsSearched}
-use Rattle.fpc_cli.specs.Solve.{IsWholeDefinition}
+use Rattle.fpc_cli.specs.Solve.{IsWholeDefinition, IsAtomRefused}
 use Rattle.fpc_cli.proofs.SolveAnswer.{View, ends, refuses_file, refuses_atom, no_file, view, one, whole-kept, word-not_both}
 
 never-missing : (c : Content) (bytes : List ℕ) → c ≡ holds bytes → c ≡ missing → ⊥
@@ -36,7 +36,7 @@ solve_refusal-is-given budget d w content a h bytes r held k =
 
 pub atom_refusal-is-given : AtomRefusalIsGiven
 atom_refusal-is-given budget d w content a h bytes r held small whole k =
-    let refused = record { bytes = bytes; held = held-in (content d) bytes held; size = small; whole = whole; refuses = k } in
+    let refused : IsAtomRefused (content d) w r = record { bytes = bytes; held = held-in (content d) bytes held; size = small; whole = whole; refuses = k } in
     one budget d w content h.known a (Refused Atom r) (seen budget d w content a h) (refuses_atom refused (never-missing (content d) bytes held)) (λ s t. t)
 
 pub solve_missing-is-given : SolveMissingIsGiven

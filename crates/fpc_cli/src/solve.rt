@@ -4,7 +4,7 @@ ghost use Rattle.fpc_base.specs.Lexeme.{items_of};
 ghost use Rattle.fpc_terms.specs.Name.{AreDifferent, Grows};
 ghost use Rattle.fpc_terms.specs.Open.{AreOpen};
 ghost use Rattle.clause_language.specs.Joined.{IsBare};
-ghost use Rattle.clause_language.specs.Naming.{IsAtomNamedBelow, IsDefinitionNamedBelow};
+ghost use Rattle.clause_language.specs.Naming.{IsAtomNamedBelow};
 ghost use Rattle.clause_language.specs.Program.{HasFewArguments};
 ghost use Rattle.clause_language.specs.ReadFile.{DefinitionIsRead};
 ghost use Rattle.search_model.specs.declared.solve.Solved.{Solved};
@@ -78,7 +78,6 @@ fn searched(
     budget: u64,
 ) -> Result<Solved, OutOfMemory>
     requires read { IsRead names.old definition }
-    requires definition_named { IsDefinitionNamedBelow (length names.old) definition }
     requires named { IsAtomNamedBelow (length names.old) atom.now }
     requires is_open { AreOpen variables atom.now.arguments }
     requires few { HasFewArguments atom.now }
@@ -122,7 +121,6 @@ fn search_answer(
     budget: u64,
 ) -> Result<Answer, OutOfMemory>
     requires read { IsRead names.old definition }
-    requires definition_named { IsDefinitionNamedBelow (length names.old) definition }
     requires named { IsAtomNamedBelow (length names.old) atom.now }
     requires is_open { AreOpen variables atom.now.arguments }
     requires few { HasFewArguments atom.now }
@@ -142,8 +140,7 @@ fn atom_answer(
     word: &str,
     budget: u64,
 ) -> Answer
-    requires read { IsRead names.old definition }
-    requires named { IsDefinitionNamedBelow (length names.old) definition }
+    requires { IsRead names.old definition }
     ensures { (bytes : List ℕ) → DefinitionIsRead None (items_of bytes) names.old definition → IsAnswerTo budget bytes word.now result }
 {
     match read_atom(alloc, names, word.as_bytes()) {
