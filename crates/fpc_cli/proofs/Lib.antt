@@ -2,6 +2,7 @@ pub mod PrintedForms
 pub mod Contents
 pub mod FormatAnswer
 pub mod FormatDue
+pub mod WordCounts
 pub mod SearchNames
 pub mod SolveFacts
 pub mod SolveAnswer
