@@ -14,7 +14,7 @@ use Rattle.clause_language.specs.Naming.{IsDefinitionNamedBelow, IsCertificateNa
 use Rattle.clause_language.specs.Text.{definition_text, certificate_text}
 use Rattle.clause_language.specs.Written.{WrittenDefinition, WrittenCertificate}
 use Rattle.fpc_cli.specs.declared.answer.Answer.{Answer}
-use Rattle.fpc_cli.specs.declared.answer.Answer.TheVariants.{Accepted, Rejected, Formatted, Refused, Usage, ReadFault, OutOfMemory}
+use Rattle.fpc_cli.specs.declared.answer.Answer.TheVariants.{Accepted, Rejected, Formatted, Holds, NotProved, BudgetSpent, TooLong, Refused, Usage, ReadFault, OutOfMemory}
 use Rattle.fpc_cli.specs.declared.command.Form.{Form}
 use Rattle.fpc_cli.specs.declared.command.Form.TheVariants.{Problem, Definition, Certificate}
 use Rattle.fpc_cli.specs.Command.{format, role_of}
@@ -120,6 +120,10 @@ module _ (form : Form) (file : List ℕ) (content : List ℕ → Content) (told 
   view o o' left before now calm (Accepted n) found (there, same, opened, judged, proved) = absurd judged
   view o o' left before now calm (Rejected k) found (there, same, opened, judged) = absurd judged
   view o o' left before now calm (Formatted text) found (same, (there, opened, printed, taken, ended)) = prints printed there
+  view o o' left before now calm (Holds atom) found (same, h) = absurd h
+  view o o' left before now calm NotProved found (same, h) = absurd h
+  view o o' left before now calm BudgetSpent found (same, h) = absurd h
+  view o o' left before now calm TooLong found (same, h) = absurd h
   view o o' left before now calm (Refused role r) found (there, same, opened, refusal) = rw there.0 (refuses refusal.1 there.1)
   view o o' left before now calm Usage found (e, same, none) = let never : ⊥ = cc in absurd never
   view o o' left before now calm ReadFault found (asked, inl (rose, nothing)) = absurd (calm rose)

@@ -24,13 +24,14 @@ use Rattle.polarised_formulas.proofs.ProblemReading.{problem-read_once, problem-
 use Rattle.fpc_base.specs.Reading.{ReadsAll, RefusesAll}
 use Rattle.explicit_kernel.specs.Judgment.{Judgment, Course, course_of, judgment}
 use Rattle.fpc_cli.specs.declared.answer.Answer.{Answer}
-use Rattle.fpc_cli.specs.declared.answer.Answer.TheVariants.{Accepted, Rejected, Formatted, Refused, Usage, ReadFault, OutOfMemory}
+use Rattle.fpc_cli.specs.declared.answer.Answer.TheVariants.{Accepted, Rejected, Formatted, Holds, NotProved, BudgetSpent, TooLong, Refused, Usage, ReadFault, OutOfMemory}
 use Rattle.fpc_cli.specs.declared.answer.Role.TheVariants.{Problem, Definition, Certificate, Explicit, Atom, Native}
-use Rattle.fpc_cli.specs.Command.{verify, format, usage}
+use Rattle.fpc_cli.specs.Command.{verify, format, solve, usage}
 use Rattle.fpc_cli.specs.Run.{MayHold, SpellsGoal, IsGood, first_place, IsNotBuilt, IsProblemRefused, left_of, IsVerified, Accepts, Rejects, Refuses, IsCaused}
 use Rattle.fpc_cli.specs.OneAnswer.{IsKnown, IsFound, HasOneAnswer}
 use Rattle.fpc_cli.proofs.Contents.{same-bytes, small-or-large}
 use Rattle.fpc_cli.proofs.FormatAnswer as printing
+use Rattle.fpc_cli.proofs.SolveAnswer as searching
 use Rattle.fpc_cli.specs.Due.{IsGiven, IsProblemOf, answer_due, JudgmentIsGiven, RefusalIsGiven, MissingIsGiven}
 
 -- what the law of numbers says of judgments
@@ -158,6 +159,10 @@ module _ (numbers : DontMatter) (p e : List ℕ) (content : List ℕ → Content
   view o o' left before now calm (Refused Atom r) found (there, same, opened, refusal) = absurd there
   view o o' left before now calm (Refused Native r) found (there, same, opened, refusal) = absurd there
   view o o' left before now calm (Formatted text) found (same, h) = absurd h
+  view o o' left before now calm (Holds atom) found (same, h) = absurd h
+  view o o' left before now calm NotProved found (same, h) = absurd h
+  view o o' left before now calm BudgetSpent found (same, h) = absurd h
+  view o o' left before now calm TooLong found (same, h) = absurd h
   view o o' left before now calm Usage found (e', same, none) = let never : ⊥ = cc in absurd never
   view o o' left before now calm ReadFault found (asked, inl (rose, nothing)) = absurd (calm rose)
   view o o' left before now calm ReadFault found (asked, inr (inl (m, none))) = no_file (inl m)
@@ -286,16 +291,22 @@ usage-is content o o' left before now (Refused Explicit r) found (there, same, o
 usage-is content o o' left before now (Refused Atom r) found (there, same, opened, refusal) = absurd there
 usage-is content o o' left before now (Refused Native r) found (there, same, opened, refusal) = absurd there
 usage-is content o o' left before now (Formatted text) found (same, h) = absurd h
+usage-is content o o' left before now (Holds atom) found (same, h) = absurd h
+usage-is content o o' left before now NotProved found (same, h) = absurd h
+usage-is content o o' left before now BudgetSpent found (same, h) = absurd h
+usage-is content o o' left before now TooLong found (same, h) = absurd h
 usage-is content o o' left before now Usage found h = refl
 usage-is content o o' left before now ReadFault found (asked, h) = absurd (asked refl)
 usage-is content o o' left before now OutOfMemory found h = absurd found
 
 pub one-answer : DontMatter → HasOneAnswer
-one-answer numbers (verify p e) content told o o' q q' left left' before now before' now' calm calm' a b h k found found' =
+one-answer numbers (verify p e) content told o o' q q' left left' before now before' now' calm calm' a b h k found found' apart =
     one numbers p e content told.0 told.1 left left' a b (view numbers p e content told.0 told.1 o o' left before now calm a found h) (view numbers p e content told.0 told.1 q q' left' before' now' calm' b found' k)
-one-answer numbers (format form file) content told o o' q q' left left' before now before' now' calm calm' a b h k found found' =
+one-answer numbers (format form file) content told o o' q q' left left' before now before' now' calm calm' a b h k found found' apart =
     printing.one form file content told a b (printing.view form file content told o o' left before now calm a found h) (printing.view form file content told q q' left' before' now' calm' b found' k)
-one-answer numbers usage content told o o' q q' left left' before now before' now' calm calm' a b h k found found' = usage-is content o o' left before now a found h ∙ sym (usage-is content q q' left' before' now' b found' k)
+one-answer numbers (solve budget d w) content told o o' q q' left left' before now before' now' calm calm' a b h k found found' apart =
+    searching.one budget d w content told a b (searching.view budget d w content told o o' left before now calm a found h) (searching.view budget d w content told q q' left' before' now' calm' b found' k) apart
+one-answer numbers usage content told o o' q q' left left' before now before' now' calm calm' a b h k found found' apart = usage-is content o o' left before now a found h ∙ sym (usage-is content q q' left' before' now' b found' k)
 
 module _ (numbers : DontMatter) (p e : List ℕ) (content : List ℕ → Content) (a : Answer) (h : IsGiven p e content a) where
   seen : View numbers p e content h.known_problem h.known_explicit h.left a

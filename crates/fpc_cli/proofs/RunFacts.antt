@@ -14,10 +14,10 @@ use Rattle.explicit_kernel.specs.declared.verify.VerifyRefusal.{VerifyRefusal}
 use Rattle.explicit_kernel.specs.declared.verify.VerifyRefusal.TheVariants.{Refused as RefusedAt, ReadFault as Fault, OutOfMemory as NoMemory}
 use Rattle.explicit_kernel.proofs.JudgmentLaws.{judgment_stays}
 use Rattle.fpc_cli.specs.declared.answer.Answer.{Answer}
-use Rattle.fpc_cli.specs.declared.answer.Answer.TheVariants.{Accepted, Rejected, Formatted, Refused, Usage, ReadFault, OutOfMemory}
+use Rattle.fpc_cli.specs.declared.answer.Answer.TheVariants.{Accepted, Rejected, Formatted, Holds, NotProved, BudgetSpent, TooLong, Refused, Usage, ReadFault, OutOfMemory}
 use Rattle.fpc_cli.specs.declared.answer.Role.TheVariants.{Problem, Definition, Certificate, Explicit, Atom, Native}
 use Rattle.fpc_cli.specs.declared.command.Form.{Form}
-use Rattle.fpc_cli.specs.Command.{Asked, verify, format, usage}
+use Rattle.fpc_cli.specs.Command.{Asked, verify, format, solve, usage}
 use Rattle.fpc_cli.specs.Run.{HasFilesTo, HasOpenedTo, HasOpenedSome, MayHold, SpellsGoal, left_of, IsVerified, Accepts, Rejects, Refuses, IsUndecided, IsCaused, IsAnswerOf}
 
 pub from-ok : {T E P : Type 0} (r : Result T E) → is_err r ≡ false → OnOk r P → P
@@ -121,6 +121,10 @@ verify-some : (p e : List ℕ) (content : List ℕ → Content) (old new : Optio
 verify-some p e content old new left before now (Accepted n) (there, same, opened, judged, proved) = inr (inr opened)
 verify-some p e content old new left before now (Rejected k) (there, same, opened, judged) = inr (inr opened)
 verify-some p e content old new left before now (Formatted text) (same, h) = absurd h
+verify-some p e content old new left before now (Holds atom) (same, h) = absurd h
+verify-some p e content old new left before now NotProved (same, h) = absurd h
+verify-some p e content old new left before now BudgetSpent (same, h) = absurd h
+verify-some p e content old new left before now TooLong (same, h) = absurd h
 verify-some p e content old new left before now (Refused Problem r) (there, same, opened, refusal) = inr (inl opened)
 verify-some p e content old new left before now (Refused Explicit r) (there, same, opened, refusal) = inr (inr opened)
 verify-some p e content old new left before now (Refused Definition r) (there, same, opened, refusal) = absurd opened
@@ -139,17 +143,40 @@ format-some : (kind : Form) (file : List ℕ) (content : List ℕ → Content) (
 format-some kind file content old new left before now (Accepted n) (there, same, opened, judged, proved) = absurd judged
 format-some kind file content old new left before now (Rejected k) (there, same, opened, judged) = absurd judged
 format-some kind file content old new left before now (Formatted text) (same, (there, opened, printed, taken, ended)) = inr opened
+format-some kind file content old new left before now (Holds atom) (same, h) = absurd h
+format-some kind file content old new left before now NotProved (same, h) = absurd h
+format-some kind file content old new left before now BudgetSpent (same, h) = absurd h
+format-some kind file content old new left before now TooLong (same, h) = absurd h
 format-some kind file content old new left before now (Refused role r) (there, same, opened, refusal) = inr opened.1
 format-some kind file content old new left before now Usage (is, same, none) = inl none
 format-some kind file content old new left before now ReadFault (is, inl (rose, h)) = h
 format-some kind file content old new left before now ReadFault (is, inr (m, none)) = inl none
 format-some kind file content old new left before now OutOfMemory opened = opened
 
+solve-some : (budget : ℕ) (d w : List ℕ) (content : List ℕ → Content) (old new : Option (List (List ℕ))) (left : Option (List ℕ)) (before now : ℕ) (a : Answer)
+    → IsCaused (solve budget d w) content old new left before now a → HasOpenedSome (solve budget d w) old new
+solve-some budget d w content old new left before now (Accepted n) (there, same, opened, judged, proved) = absurd judged
+solve-some budget d w content old new left before now (Rejected k) (there, same, opened, judged) = absurd judged
+solve-some budget d w content old new left before now (Formatted text) (same, h) = absurd h
+solve-some budget d w content old new left before now (Holds atom) (same, h) = inr h.1
+solve-some budget d w content old new left before now NotProved (same, h) = inr h.1
+solve-some budget d w content old new left before now BudgetSpent (same, h) = inr h.1
+solve-some budget d w content old new left before now TooLong (same, h) = inr h.1
+solve-some budget d w content old new left before now (Refused role r) (there, same, opened, refusal) = inr opened.1
+solve-some budget d w content old new left before now Usage (is, same, none) = inl none
+solve-some budget d w content old new left before now ReadFault (is, inl (rose, h)) = h
+solve-some budget d w content old new left before now ReadFault (is, inr (m, none)) = inl none
+solve-some budget d w content old new left before now OutOfMemory opened = opened
+
 usage-some : (content : List ℕ → Content) (old new : Option (List (List ℕ))) (left : Option (List ℕ)) (before now : ℕ) (a : Answer)
     → IsCaused usage content old new left before now a → HasOpenedSome usage old new
 usage-some content old new left before now (Accepted n) (there, same, opened, judged, proved) = absurd there
 usage-some content old new left before now (Rejected k) (there, same, opened, judged) = absurd there
 usage-some content old new left before now (Formatted text) (same, h) = absurd h
+usage-some content old new left before now (Holds atom) (same, h) = absurd h
+usage-some content old new left before now NotProved (same, h) = absurd h
+usage-some content old new left before now BudgetSpent (same, h) = absurd h
+usage-some content old new left before now TooLong (same, h) = absurd h
 usage-some content old new left before now (Refused role r) (there, same, opened, refusal) = absurd there
 usage-some content old new left before now Usage (is, same, none) = none
 usage-some content old new left before now ReadFault (is, inl (rose, none)) = none
@@ -160,4 +187,5 @@ usage-some content old new left before now OutOfMemory opened = opened
 pub opened-some : (asked : Asked) (content : List ℕ → Content) (old new : Option (List (List ℕ))) (left : Option (List ℕ)) (before now : ℕ) (a : Answer) → IsCaused asked content old new left before now a → HasOpenedSome asked old new
 opened-some (verify p e) content old new left before now a h = verify-some p e content old new left before now a h
 opened-some (format kind file) content old new left before now a h = format-some kind file content old new left before now a h
+opened-some (solve budget d w) content old new left before now a h = solve-some budget d w content old new left before now a h
 opened-some usage content old new left before now a h = usage-some content old new left before now a h

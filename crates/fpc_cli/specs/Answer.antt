@@ -5,7 +5,7 @@ use Rattle.fpc_base.specs.Refusal.{code_number, code_name}
 use Rattle.fpc_cli.specs.declared.answer.Role.{Role}
 use Rattle.fpc_cli.specs.declared.answer.Role.TheVariants.{Problem, Definition, Certificate, Explicit, Atom, Native}
 use Rattle.fpc_cli.specs.declared.answer.Answer.{Answer}
-use Rattle.fpc_cli.specs.declared.answer.Answer.TheVariants.{Accepted, Rejected, Formatted, Refused, Usage, ReadFault, OutOfMemory}
+use Rattle.fpc_cli.specs.declared.answer.Answer.TheVariants.{Accepted, Rejected, Formatted, Holds, NotProved, BudgetSpent, TooLong, Refused, Usage, ReadFault, OutOfMemory}
 
 -- the name of a role
 abbrev pub role_name : Role → List ℕ
@@ -21,6 +21,10 @@ abbrev pub status_of : Answer → ℕ
 status_of (Accepted steps) = 0
 status_of (Rejected at) = 1
 status_of (Formatted text) = 0
+status_of (Holds atom) = 0
+status_of NotProved = 1
+status_of BudgetSpent = 2
+status_of TooLong = 7
 status_of (Refused role refusal) = 3
 status_of Usage = 4
 status_of ReadFault = 5
@@ -35,11 +39,15 @@ refusal_text refusal =
 abbrev pub line_of : List ℕ → List ℕ
 line_of words = words ++ 10 ∷ []
 
--- the text of an answer: a file's printed form as it is, else a line
+-- the text of an answer: a file's printed form as it is, else a line, behind which an atom that holds stands on a line of its own
 abbrev pub answer_text : Answer → List ℕ
 answer_text (Accepted steps) = line_of (codes "accepted, " ++ decimal steps ++ codes " steps")
 answer_text (Rejected at) = line_of (codes "rejected at step " ++ decimal at)
 answer_text (Formatted text) = text
+answer_text (Holds atom) = line_of (codes "accepted") ++ line_of atom
+answer_text NotProved = line_of (codes "rejected")
+answer_text BudgetSpent = line_of (codes "budget spent")
+answer_text TooLong = line_of (codes "too long")
 answer_text (Refused role refusal) = line_of (codes "refused " ++ role_name role ++ codes " " ++ refusal_text refusal)
 answer_text Usage = line_of (codes "usage")
 answer_text ReadFault = line_of (codes "read fault")

@@ -1,17 +1,21 @@
 -- What the program's words ask for.
-use Rattle.std.specs.Prelude.{ℕ, Bool, false, not, ◌==◌, ◌&&◌, if◌then◌else◌, List, [], ◌∷◌, codes, bytes_eq, Option, Some, None}
+use Rattle.std.specs.Prelude.{ℕ, ◌+◌, ◌-◌, ◌*◌, nat_eq, nat_le, Bool, false, not, ◌==◌, ◌&&◌, if◌then◌else◌, List, [], ◌∷◌, codes, bytes_eq, Option, Some, None}
+use Rattle.std.specs.List.{starts_with}
+use Rattle.fpc_base.specs.Tokens.{is_digit}
 use Rattle.fpc_cli.specs.declared.answer.Role.{Role}
 use Rattle.fpc_cli.specs.declared.answer.Role.TheVariants as role
 use Rattle.fpc_cli.specs.declared.command.Command.{Command}
-use Rattle.fpc_cli.specs.declared.command.Command.TheVariants.{Verify, Format, Usage}
+use Rattle.fpc_cli.specs.declared.command.Command.TheVariants.{Verify, Format, Solve, Usage}
 use Rattle.fpc_cli.specs.declared.command.Form.{Form}
 use Rattle.fpc_cli.specs.declared.command.Form.TheVariants.{Problem, Definition, Certificate}
 
 -- what the program is asked to do: to verify the explicit certificate in one file against the problem in another, to print the printed form
--- of a file that is read as a problem, a definition or a certificate, or nothing that it knows
+-- of a file that is read as a problem, a definition or a certificate, to search for an instance of an atom that holds by the definition in a file,
+-- within a budget of units, or nothing that it knows
 pub data Asked : Type 0 where
   verify : (problem explicit : List ℕ) → Asked
   format : (form : Form) → (file : List ℕ) → Asked
+  solve : (budget : ℕ) → (definition atom : List ℕ) → Asked
   usage : Asked
 
 -- a word that can name a file: it is not empty and does not begin with `-`
@@ -40,18 +44,65 @@ format_as (Some form) file = format form file
 abbrev pub format_by : List ℕ → List ℕ → Asked
 format_by form file = if is_file_word file then format_as (form_said form) file else usage
 
--- the words are exactly `verify` or `format` and two more that it may have; any others are an error of usage
-abbrev pub asked_by : List (List ℕ) → Asked
-asked_by (name ∷ second ∷ third ∷ []) =
+-- the most units of a budget
+abbrev pub most_budget : ℕ
+most_budget = 4611686018427387904
+
+-- the budget of a search without one of its own
+abbrev pub usual_budget : ℕ
+usual_budget = 10000000
+
+-- a number with one more digit, where the byte is a digit and the number is at most the most units
+abbrev pub with_digit : ℕ → ℕ → Option ℕ
+with_digit n b = if is_digit b && nat_le (10 * n + (b - 48)) most_budget then Some (10 * n + (b - 48)) else None
+
+-- a number with more digits
+abbrev pub with_digits : ℕ → List ℕ → Option ℕ
+with_digits n [] = Some n
+with_digits n (b ∷ bs) = elim (with_digit n b) [ Some m ↦ with_digits m bs | None ↦ None ]
+
+-- the budget that a word says: digits alone, the first one not 0, and at most the most units
+abbrev pub budget_said : List ℕ → Option ℕ
+budget_said [] = None
+budget_said (b ∷ bs) = if nat_eq b 48 then None else with_digits 0 (b ∷ bs)
+
+-- a word that can name a definition's file: it can name a file, and does not begin as the name of a definition that is built in
+abbrev pub is_definition_word : List ℕ → Bool
+is_definition_word word = is_file_word word && not (starts_with nat_eq word (codes "builtin:"))
+
+-- behind `solve` and its budget: a definition's file, and any word as an atom
+abbrev pub solve_by : ℕ → List ℕ → List ℕ → Asked
+solve_by budget definition atom = if is_definition_word definition then solve budget definition atom else usage
+
+-- a search, where a budget was said
+abbrev pub solve_within : Option ℕ → List ℕ → List ℕ → Asked
+solve_within None definition atom = usage
+solve_within (Some budget) definition atom = solve_by budget definition atom
+
+-- a command and two words behind it
+abbrev pub short_asked : List ℕ → List ℕ → List ℕ → Asked
+short_asked name second third =
     if bytes_eq name (codes "verify") then verify_by second third
     else (if bytes_eq name (codes "format") then format_by second third
-    else usage)
+    else (if bytes_eq name (codes "solve") then solve_by usual_budget second third
+    else usage))
+
+-- `solve` with `--budget`, a budget and two words behind it
+abbrev pub long_asked : List ℕ → List ℕ → List ℕ → List ℕ → List ℕ → Asked
+long_asked name flag budget definition atom =
+    if bytes_eq name (codes "solve") && bytes_eq flag (codes "--budget") then solve_within (budget_said budget) definition atom else usage
+
+-- the words are exactly a command and two more that it may have, or `solve` and four; any others are an error of usage
+abbrev pub asked_by : List (List ℕ) → Asked
+asked_by (name ∷ second ∷ third ∷ []) = short_asked name second third
+asked_by (name ∷ flag ∷ budget ∷ definition ∷ atom ∷ []) = long_asked name flag budget definition atom
 asked_by _ = usage
 
 -- what a command stands for
 abbrev pub asked_of : Command → Asked
 asked_of (Verify problem explicit) = verify problem.now explicit.now
 asked_of (Format form file) = format form file.now
+asked_of (Solve budget definition atom) = solve budget definition.now atom.now
 asked_of Usage = usage
 
 -- the role of a file of a form

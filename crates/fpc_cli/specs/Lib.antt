@@ -2,7 +2,9 @@ pub mod Command
 pub mod Answer
 pub mod Held
 pub mod Format
+pub mod Solve
 pub mod Run
 pub mod OneAnswer
 pub mod Due
 pub mod DueFormat
+pub mod DueSolve

@@ -22,13 +22,15 @@ use Rattle.explicit_kernel.specs.declared.verify.Verdict.TheVariants.{Accepted a
 use Rattle.explicit_kernel.specs.declared.verify.VerifyRefusal.{VerifyRefusal}
 use Rattle.explicit_kernel.specs.declared.verify.VerifyRefusal.TheVariants.{Refused as RefusedAt, ReadFault as Fault, OutOfMemory as NoMemory}
 use Rattle.fpc_cli.specs.declared.answer.Answer.{Answer}
-use Rattle.fpc_cli.specs.declared.answer.Answer.TheVariants.{Accepted, Rejected, Formatted, Refused, Usage, ReadFault, OutOfMemory}
+use Rattle.fpc_cli.specs.declared.answer.Answer.TheVariants.{Accepted, Rejected, Formatted, Holds, NotProved, BudgetSpent, TooLong, Refused, Usage, ReadFault, OutOfMemory}
 use Rattle.fpc_cli.specs.declared.answer.Role.{Role}
-use Rattle.fpc_cli.specs.declared.answer.Role.TheVariants.{Problem, Explicit}
+use Rattle.fpc_cli.specs.declared.answer.Role.TheVariants.{Problem, Definition, Explicit, Atom}
 use Rattle.fpc_cli.specs.declared.command.Form.{Form}
-use Rattle.fpc_cli.specs.Command.{Asked, verify, format, usage, role_of}
+use Rattle.fpc_cli.specs.declared.command.Form.TheVariants as form
+use Rattle.fpc_cli.specs.Command.{Asked, verify, format, solve, usage, role_of}
 pub use Rattle.fpc_cli.specs.Held.{MayHold, MayBeTooLarge, IsTakenOf}
 use Rattle.fpc_cli.specs.Format.{IsPrintedFrom, IsFormRefused}
+use Rattle.fpc_cli.specs.Solve.{IsSearchedFrom, IsAtomRefused}
 use Rattle.fpc_cli.specs.Answer.{answer_text, status_of}
 
 -- the files of `verify` up to the one of a role are not told as missing; it asks for no other roles
@@ -37,10 +39,17 @@ HasVerifyFilesTo Problem problem explicit = problem ≢ missing
 HasVerifyFilesTo Explicit problem explicit = (problem ≢ missing) × (explicit ≢ missing)
 HasVerifyFilesTo _ problem explicit = ⊥
 
--- the files of the command up to the one of a role are not told as missing; `format` has one file
+-- a definition's file and an atom are what may be refused in `solve`
+abbrev pub IsSolveRole : Role → Type 0
+IsSolveRole Definition = Unit {0}
+IsSolveRole Atom = Unit {0}
+IsSolveRole _ = ⊥
+
+-- the files of the command up to the one of a role are not told as missing; `format` and `solve` have one file
 abbrev pub HasFilesTo : Role → Asked → (List ℕ → Content) → Type 0
 HasFilesTo role (verify problem explicit) content = HasVerifyFilesTo role (content problem) (content explicit)
 HasFilesTo role (format form file) content = (role ≡ role_of form) × (content file ≢ missing)
+HasFilesTo role (solve budget definition atom) content = IsSolveRole role × (content definition ≢ missing)
 HasFilesTo role usage content = ⊥
 
 -- the file's bytes are a problem of LKF with this goal, by the numbers of names in a table
@@ -64,12 +73,14 @@ HasOpenedVerify _ problem explicit old new = ⊥
 abbrev pub HasOpenedTo : Role → Asked → Option (List (List ℕ)) → Option (List (List ℕ)) → Type 0
 HasOpenedTo role (verify problem explicit) old new = HasOpenedVerify role problem explicit old new
 HasOpenedTo role (format form file) old new = (role ≡ role_of form) × Opens old file new
+HasOpenedTo role (solve budget definition atom) old new = IsSolveRole role × Opens old definition new
 HasOpenedTo role usage old new = ⊥
 
 -- the first of the files that isn't good is told as missing, and was not opened
 abbrev pub MissesOne : Asked → (List ℕ → Content) → Option (List (List ℕ)) → Option (List (List ℕ)) → Type 0
 MissesOne (verify problem explicit) content old new = ((content problem ≡ missing) × (new ≡ old)) ⊎ (IsGood (content problem) × (content explicit ≡ missing) × Opens old problem new)
 MissesOne (format form file) content old new = (content file ≡ missing) × (new ≡ old)
+MissesOne (solve budget definition atom) content old new = (content definition ≡ missing) × (new ≡ old)
 MissesOne usage content old new = ⊥
 
 -- the bytes that are left of a file, where it tells them
@@ -110,6 +121,7 @@ IsUndecided c taken j = (st : State) × ((q : List Levelled) × ((n : ℕ) × (c
 abbrev pub HasJudgment : Asked → (List ℕ → Content) → Option (List ℕ) → (Course → ℕ → Judgment → Type 0) → Type 0
 HasJudgment (verify problem explicit) content left P = IsVerified (content problem) (content explicit) left P
 HasJudgment (format form file) content left P = ⊥
+HasJudgment (solve budget definition atom) content left P = ⊥
 HasJudgment usage content left P = ⊥
 
 -- the place of the first token
@@ -140,10 +152,17 @@ IsVerifyRefusal Problem problem explicit left refusal = IsProblemRefused problem
 IsVerifyRefusal Explicit problem explicit left refusal = IsVerified problem explicit left (Refuses refusal)
 IsVerifyRefusal _ problem explicit left refusal = ⊥
 
--- a refusal of a file of the command; of the one of `format` at most one byte more was taken than a source file may have
+-- a refusal of what is read for `solve`: of the definition's file, or of the atom, where the file was read to its end
+abbrev pub IsSolveRefusal : Role → (definition : Content) → (atom : List ℕ) → Option (List ℕ) → Refusal → Type 0
+IsSolveRefusal Definition definition atom left refusal = IsFormRefused form.Definition definition refusal
+IsSolveRefusal Atom definition atom left refusal = IsAtomRefused definition atom refusal × IsAtEnd left
+IsSolveRefusal _ definition atom left refusal = ⊥
+
+-- a refusal of a file of the command, or of an atom; of the one file of `format` and of `solve` at most one byte more was taken than a source file may have
 abbrev pub IsRefusalOf : Role → Asked → (List ℕ → Content) → Option (List ℕ) → Refusal → Type 0
 IsRefusalOf role (verify problem explicit) content left refusal = IsVerifyRefusal role (content problem) (content explicit) left refusal
 IsRefusalOf role (format form file) content left refusal = (role ≡ role_of form) × IsFormRefused form (content file) refusal × IsTakenOf 16777217 (content file) left
+IsRefusalOf role (solve budget definition atom) content left refusal = IsSolveRefusal role (content definition) atom left refusal × IsTakenOf 16777217 (content definition) left
 IsRefusalOf role usage content left refusal = ⊥
 
 -- The text is the printed form of the file that is to be printed, which is not told as missing, and was opened once, and no other. It was read to its end, and at most one byte more was taken than a
@@ -152,25 +171,38 @@ abbrev pub IsFormatted : Asked → (List ℕ → Content) → Option (List (List
 IsFormatted (verify problem explicit) content old new left text = ⊥
 IsFormatted (format form file) content old new left text =
     (content file ≢ missing) × Opens old file new × IsPrintedFrom form (content file) text × IsTakenOf 16777217 (content file) left × IsAtEnd left
+IsFormatted (solve budget definition atom) content old new left text = ⊥
 IsFormatted usage content old new left text = ⊥
+
+-- The answer is the one of the search over the definition's file, which is not told as missing, and was opened once, and no other. It was read to its end, and at most one byte more was taken than a
+-- source file may have.
+abbrev pub HasSearched : Asked → (List ℕ → Content) → Option (List (List ℕ)) → Option (List (List ℕ)) → Option (List ℕ) → Answer → Type 0
+HasSearched (verify problem explicit) content old new left answer = ⊥
+HasSearched (format form file) content old new left answer = ⊥
+HasSearched (solve budget definition atom) content old new left answer =
+    (content definition ≢ missing) × Opens old definition new × IsSearchedFrom budget (content definition) atom answer × IsTakenOf 16777217 (content definition) left × IsAtEnd left
+HasSearched usage content old new left answer = ⊥
 
 -- some closed goal of LKF has a spelling of so many steps, and is derivable
 abbrev pub IsProved : Asked → (List ℕ → Content) → ℕ → Type 0
 IsProved (verify problem explicit) content n = (names : List (List ℕ)) × ((goal : Formula) × (SpellsGoal names (content problem) goal × IsClosed goal × IsLkf goal × HasSpelling goal n × IsDerivable goal))
 IsProved (format form file) content n = ⊥
+IsProved (solve budget definition atom) content n = ⊥
 IsProved usage content n = ⊥
 
--- no file was opened, or the problem's, or both, and no other; of `format`, no file or the one
+-- no file was opened, or the problem's, or both, and no other; of `format` and `solve`, no file or the one
 abbrev pub HasOpenedSome : Asked → Option (List (List ℕ)) → Option (List (List ℕ)) → Type 0
 HasOpenedSome (verify problem explicit) old new = (new ≡ old) ⊎ (HasOpenedVerify Problem problem explicit old new ⊎ HasOpenedVerify Explicit problem explicit old new)
 HasOpenedSome (format form file) old new = (new ≡ old) ⊎ Opens old file new
+HasOpenedSome (solve budget definition atom) old new = (new ≡ old) ⊎ Opens old definition new
 HasOpenedSome usage old new = new ≡ old
 
--- The certificate's file was not opened, or what was taken of it shows nothing. Of a file that is to be printed nothing is told before its end.
+-- The certificate's file was not opened, or what was taken of it shows nothing. Of a file that is to be printed or searched nothing is told before its end.
 abbrev pub ShowsNothing : Asked → (List ℕ → Content) → Option (List (List ℕ)) → Option (List (List ℕ)) → Option (List ℕ) → Type 0
 ShowsNothing (verify problem explicit) content old new left =
     (new ≡ old) ⊎ (HasOpenedVerify Problem problem explicit old new ⊎ (HasOpenedVerify Explicit problem explicit old new × IsVerified (content problem) (content explicit) left IsUndecided))
 ShowsNothing (format form file) content old new left = (new ≡ old) ⊎ Opens old file new
+ShowsNothing (solve budget definition atom) content old new left = (new ≡ old) ⊎ Opens old definition new
 ShowsNothing usage content old new left = new ≡ old
 
 -- An answer's cause, in what was asked, what is told of the files, which of them were opened before and are now, what is left of the one that is open, and the counts of their faults before and now.
@@ -179,6 +211,10 @@ IsCaused asked content old new left before now (Accepted n) =
     HasFilesTo Explicit asked content × (now ≡ before) × HasOpenedTo Explicit asked old new × HasJudgment asked content left (Accepts n) × IsProved asked content n
 IsCaused asked content old new left before now (Rejected k) = HasFilesTo Explicit asked content × (now ≡ before) × HasOpenedTo Explicit asked old new × HasJudgment asked content left (Rejects k)
 IsCaused asked content old new left before now (Formatted text) = (now ≡ before) × IsFormatted asked content old new left text
+IsCaused asked content old new left before now (Holds atom) = (now ≡ before) × HasSearched asked content old new left (Holds atom)
+IsCaused asked content old new left before now NotProved = (now ≡ before) × HasSearched asked content old new left NotProved
+IsCaused asked content old new left before now BudgetSpent = (now ≡ before) × HasSearched asked content old new left BudgetSpent
+IsCaused asked content old new left before now TooLong = (now ≡ before) × HasSearched asked content old new left TooLong
 IsCaused asked content old new left before now (Refused role refusal) = HasFilesTo role asked content × (now ≡ before) × HasOpenedTo role asked old new × IsRefusalOf role asked content left refusal
 IsCaused asked content old new left before now Usage = (asked ≡ usage) × (now ≡ before) × (new ≡ old)
 IsCaused asked content old new left before now ReadFault = (asked ≢ usage) × ((Rose before now × ShowsNothing asked content old new left) ⊎ MissesOne asked content old new)

@@ -43,7 +43,15 @@ pub enum Answer {
     Rejected { at: u64 },
     /// The printed form of a file.
     Formatted { text: Text },
-    /// A file was refused.
+    /// An instance of the atom holds; this is its text.
+    Holds { atom: Text },
+    /// No instance of the atom holds.
+    NotProved,
+    /// The search took all units of its budget before its end.
+    BudgetSpent,
+    /// An instance of the atom holds, and its text is too long.
+    TooLong,
+    /// A file or an atom was refused.
     Refused { role: Role, refusal: Refusal },
     /// The program's words are no command.
     Usage,
@@ -64,6 +72,10 @@ pub fn status(answer: &Answer) -> Status
         Answer::Accepted { .. } => 0,
         Answer::Rejected { .. } => 1,
         Answer::Formatted { .. } => 0,
+        Answer::Holds { .. } => 0,
+        Answer::NotProved => 1,
+        Answer::BudgetSpent => 2,
+        Answer::TooLong => 7,
         Answer::Refused { .. } => 3,
         Answer::Usage => 4,
         Answer::ReadFault => 5,
@@ -80,6 +92,10 @@ pub fn text_of(alloc: Global, answer: Answer) -> Result<Vec<u8>, OutOfMemory>
         Answer::Accepted { steps } => accepted_text(alloc, steps),
         Answer::Rejected { at } => Ok(format!(in alloc; "rejected at step {at}\n")?.into_bytes()),
         Answer::Formatted { text } => Ok(text.into_bytes()),
+        Answer::Holds { atom } => holds_text(alloc, atom),
+        Answer::NotProved => Ok(Vec::from_slice(alloc, b"rejected\n")?),
+        Answer::BudgetSpent => Ok(Vec::from_slice(alloc, b"budget spent\n")?),
+        Answer::TooLong => Ok(Vec::from_slice(alloc, b"too long\n")?),
         Answer::Refused { role, refusal } => refused_text(alloc, role, refusal),
         Answer::Usage => Ok(Vec::from_slice(alloc, b"usage\n")?),
         Answer::ReadFault => Ok(Vec::from_slice(alloc, b"read fault\n")?),
@@ -94,7 +110,17 @@ fn accepted_text(alloc: Global, steps: u64) -> Result<Vec<u8>, OutOfMemory>
     Ok(format!(in alloc; "accepted, {steps} steps\n")?.into_bytes())
 }
 
-/// The line that says why a file was refused.
+/// The lines that say that an atom holds. Time is linear in the atom's text.
+fn holds_text(alloc: Global, atom: Text) -> Result<Vec<u8>, OutOfMemory>
+    ensures { IfOk result (λ text. text.items ≡ answer_text (Answer.Holds atom)) }
+{
+    let mut text = Vec::from_slice(alloc, b"accepted\n")?;
+    text.extend_from_slice(atom.into_bytes().as_slice())?;
+    text.push(b'\n')?;
+    Ok(text)
+}
+
+/// The line that says why a file or an atom was refused.
 fn refused_text(alloc: Global, role: Role, refusal: Refusal) -> Result<Vec<u8>, OutOfMemory>
     ensures { IfOk result (λ text. text.items ≡ answer_text (Answer.Refused role refusal)) }
 {
@@ -155,6 +181,9 @@ mod tests {
                 "refused native 9 ManyVariables at 34\n",
                 3,
             ),
+            (Answer::NotProved, "rejected\n", 1),
+            (Answer::BudgetSpent, "budget spent\n", 2),
+            (Answer::TooLong, "too long\n", 7),
             (Answer::Usage, "usage\n", 4),
             (Answer::ReadFault, "read fault\n", 5),
             (Answer::OutOfMemory, "want of memory\n", 8),
@@ -165,6 +194,17 @@ mod tests {
             assert!(rt; text.as_slice() == line.as_bytes());
         }
         assert!(rt; WANT_OF_MEMORY == b"want of memory\n".as_slice());
+        Ok(())
+    }
+
+    #[test]
+    fn an_atom_stands_on_a_line_of_its_own(rt: HostRuntime) -> Result<(), Fail> {
+        let answer = Answer::Holds {
+            atom: Text::new(Vec::from_slice(rt.alloc(), b"col(blue,c)")?),
+        };
+        assert_eq!(rt; status(&answer).code, 0);
+        let text = text_of(rt.alloc(), answer)?;
+        assert!(rt; text.as_slice() == b"accepted\ncol(blue,c)\n".as_slice());
         Ok(())
     }
 

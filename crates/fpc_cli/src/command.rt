@@ -1,6 +1,6 @@
 //! The commands that the program's words ask for.
-ghost use Rattle.std.specs.Prelude.{◌≡◌};
-ghost use Rattle.fpc_cli.specs.Command.{asked_by, asked_of, verify_by, format_by, form_said, role_of, is_file_word};
+ghost use Rattle.std.specs.Prelude.{◌≡◌, ◌≤◌};
+ghost use Rattle.fpc_cli.specs.Command.{asked_by, asked_of, short_asked, long_asked, verify_by, format_by, form_said, role_of, is_file_word, most_budget, with_digit, with_digits, budget_said, is_definition_word, solve_by};
 
 use crate::answer::Role;
 use crate::words::Words;
@@ -33,24 +33,70 @@ pub enum Command<'a> {
     Verify { problem: &'a str, explicit: &'a str },
     /// Print the printed form of a file.
     Format { form: Form, file: &'a str },
+    /// Search for an instance of an atom that holds by the definition in a file, within a budget of units.
+    Solve {
+        budget: u64,
+        definition: &'a str,
+        atom: &'a str,
+    },
     /// Say that the words are no command.
     Usage,
 }
+
+/// The most units of a budget.
+const MOST_BUDGET: u64 = 4_611_686_018_427_387_904;
+
+/// The budget of a search without one of its own.
+const USUAL_BUDGET: u64 = 10_000_000;
 
 /// The command that the words are.
 pub fn command_of(words: &Words) -> Command<'_>
     ensures { asked_of result ≡ asked_by words.now }
 {
-    if words.len() != 3 {
-        return Command::Usage;
+    match words.len() {
+        3 => short_command(words.get(0), words.get(1), words.get(2)),
+        5 => long_command(
+            words.get(0),
+            words.get(1),
+            words.get(2),
+            words.get(3),
+            words.get(4),
+        ),
+        _ => Command::Usage,
     }
-    let name = words.get(0);
+}
+
+/// The command of a name and two words behind it.
+fn short_command<'a>(name: &str, second: &'a str, third: &'a str) -> Command<'a>
+    ensures { asked_of result ≡ short_asked name.now second.now third.now }
+{
     if name == "verify" {
-        verify_of(words.get(1), words.get(2))
+        verify_of(second, third)
     } else if name == "format" {
-        format_of(words.get(1), words.get(2))
+        format_of(second, third)
+    } else if name == "solve" {
+        solve_of(USUAL_BUDGET, second, third)
     } else {
         Command::Usage
+    }
+}
+
+/// The command of a name, a flag with its budget, and two words behind it.
+fn long_command<'a>(
+    name: &str,
+    flag: &str,
+    budget: &str,
+    definition: &'a str,
+    atom: &'a str,
+) -> Command<'a>
+    ensures { asked_of result ≡ long_asked name.now flag.now budget.now definition.now atom.now }
+{
+    if name != "solve" || flag != "--budget" {
+        return Command::Usage;
+    }
+    match budget_said(budget) {
+        Some(budget) => solve_of(budget, definition, atom),
+        None => Command::Usage,
     }
 }
 
@@ -93,6 +139,68 @@ fn form_said(word: &str) -> Option<Form>
     }
 }
 
+/// The command of the words behind `solve` and its budget.
+fn solve_of<'a>(budget: u64, definition: &'a str, atom: &'a str) -> Command<'a>
+    ensures { asked_of result ≡ solve_by budget definition.now atom.now }
+{
+    if is_definition_word(definition) {
+        Command::Solve {
+            budget,
+            definition,
+            atom,
+        }
+    } else {
+        Command::Usage
+    }
+}
+
+/// The budget that a word says: digits alone, the first one not 0, and at most the most units.
+fn budget_said(word: &str) -> Option<u64>
+    ensures { result ≡ budget_said word.now }
+{
+    match word.as_bytes() {
+        [] => None,
+        [b'0', ..] => None,
+        digits => number_of(digits),
+    }
+}
+
+/// The number that these bytes are the digits of, where it is at most the most units.
+fn number_of(digits: &[u8]) -> Option<u64>
+    ensures { result ≡ with_digits 0 digits.now }
+{
+    let mut number = 0;
+    for byte in digits {
+        match with_digit(number, *byte) {
+            Some(longer) => number = longer,
+            None => return None,
+        }
+    }
+    Some(number)
+}
+
+/// A number with one more digit, where the byte is a digit and the number is at most the most units.
+fn with_digit(number: u64, byte: u8) -> Option<u64>
+    ensures { result ≡ with_digit number byte }
+{
+    if byte < b'0' || byte > b'9' || number > MOST_BUDGET / 10 {
+        return None;
+    }
+    let longer = 10 * number + (byte - b'0') as u64;
+    if longer <= MOST_BUDGET {
+        Some(longer)
+    } else {
+        None
+    }
+}
+
+/// Whether a word can name a definition's file.
+fn is_definition_word(word: &str) -> bool
+    ensures { result ≡ is_definition_word word.now }
+{
+    is_file_word(word) && !word.as_bytes().starts_with(b"builtin:")
+}
+
 /// Whether a word can name a file.
 fn is_file_word(word: &str) -> bool
     ensures { result ≡ is_file_word word.now }
@@ -108,6 +216,7 @@ mod tests {
     use super::*;
     use fpc_base::OutOfMemory;
     use std::alloc::Global;
+    use std::process::Abort;
     use std::test::Fail;
 
     fn words_of(alloc: Global, texts: &[&str]) -> Result<Words, OutOfMemory> {
@@ -124,6 +233,14 @@ mod tests {
 
     const fn format<'a>(form: Form, file: &'a str) -> Command<'a> {
         Command::Format { form, file }
+    }
+
+    const fn solve<'a>(budget: u64, definition: &'a str, atom: &'a str) -> Command<'a> {
+        Command::Solve {
+            budget,
+            definition,
+            atom,
+        }
     }
 
     #[test]
@@ -161,9 +278,101 @@ mod tests {
             (&["formats", "problem", "f"], usage),
         ];
         for (texts, command) in table {
-            let words = words_of(rt.alloc(), texts)?;
-            assert_eq!(rt; command_of(&words), command, "of {texts:?}");
+            expect_command(&rt, rt.alloc(), texts, command)?;
         }
         Ok(())
+    }
+
+    fn expect_command(
+        rt: &impl Abort,
+        alloc: Global,
+        texts: &[&str],
+        command: Command,
+    ) -> Result<(), Fail> {
+        let words = words_of(alloc, texts)?;
+        assert_eq!(rt; command_of(&words), command, "of {texts:?}");
+        Ok(())
+    }
+
+    #[test]
+    fn any_word_may_be_an_atom(rt: HostRuntime) -> Result<(), Fail> {
+        let table: [(&[&str], Command); 4] = [
+            (&["solve", "d", "p(X)"], solve(10_000_000, "d", "p(X)")),
+            (&["solve", "d", ""], solve(10_000_000, "d", "")),
+            (&["solve", "d", "-p"], solve(10_000_000, "d", "-p")),
+            (
+                &["solve", "builtin", "--budget"],
+                solve(10_000_000, "builtin", "--budget"),
+            ),
+        ];
+        for (texts, command) in table {
+            expect_command(&rt, rt.alloc(), texts, command)?;
+        }
+        Ok(())
+    }
+
+    #[test]
+    fn other_words_of_a_search_are_usage(rt: HostRuntime) -> Result<(), Fail> {
+        let table: [&[&str]; 15] = [
+            &["solve"],
+            &["solve", "d"],
+            &["solve", "", "p"],
+            &["solve", "-d", "p"],
+            &["solve", "builtin:cnf", "p"],
+            &["solve", "builtin:", "p"],
+            &["solve", "--budget", "1"],
+            &["solve", "--budget", "1", "d"],
+            &["solve", "--budget", "1", "-d", "p"],
+            &["solve", "--budget", "1", "builtin:cnf", "p"],
+            &["solve", "d", "p", "--budget", "1"],
+            &["solve", "d", "--budget", "1", "p"],
+            &["solve", "--limit", "1", "d", "p"],
+            &["solve", "--budget", "1", "--budget", "1", "d", "p"],
+            &["format", "--budget", "1", "problem", "f"],
+        ];
+        for texts in table {
+            expect_command(&rt, rt.alloc(), texts, Command::Usage)?;
+        }
+        Ok(())
+    }
+
+    #[test]
+    fn a_budget_is_a_number_of_one_or_more(rt: HostRuntime) -> Result<(), Fail> {
+        let table = [
+            ("1", Some(1)),
+            ("9", Some(9)),
+            ("10000001", Some(10_000_001)),
+            ("4611686018427387903", Some(4_611_686_018_427_387_903)),
+            ("4611686018427387904", Some(4_611_686_018_427_387_904)),
+            ("4611686018427387905", None),
+            ("18446744073709551617", None),
+            ("0", None),
+            ("01", None),
+            ("", None),
+            ("-1", None),
+            ("+1", None),
+            ("1 ", None),
+            ("1_0", None),
+            ("1:", None),
+            ("1/", None),
+        ];
+        for (budget, number) in table {
+            expect_budget(&rt, rt.alloc(), budget, number)?;
+        }
+        Ok(())
+    }
+
+    fn expect_budget(
+        rt: &impl Abort,
+        alloc: Global,
+        budget: &str,
+        number: Option<u64>,
+    ) -> Result<(), Fail> {
+        let texts = ["solve", "--budget", budget, "d", "p"];
+        let command = match number {
+            Some(number) => solve(number, "d", "p"),
+            None => Command::Usage,
+        };
+        expect_command(rt, alloc, &texts, command)
     }
 }

@@ -1,14 +1,16 @@
 //! Laws over the definition of the program's answers. The functions do nothing: their contracts say the laws.
 ghost use Rattle.fpc_cli.specs.Due.{JudgmentIsGiven, MissingIsGiven, RefusalIsGiven};
 ghost use Rattle.fpc_cli.specs.DueFormat.{PrintedFormIsGiven, FormatRefusalIsGiven, FormatMissingIsGiven};
+ghost use Rattle.fpc_cli.specs.DueSolve.{SearchIsGiven, SolveRefusalIsGiven, AtomRefusalIsGiven, SolveMissingIsGiven};
 ghost use Rattle.fpc_cli.specs.OneAnswer.{HasOneAnswer};
 
-/// The words and the contents of the files have one answer, but for want of memory and failed calls.
+/// The words and the contents of the files have one answer, but for want of memory and failed calls. Of two ends of a search it is not said.
 pub fn one_answer()
     ensures { HasOneAnswer }
 {}
 
-/// The answer of `verify` and of `format` is the one that the contents of the files call for, but for want of memory and failed calls.
+/// The answer of `verify`, of `format` and of `solve` is the one that the contents of the files call for, but for want of memory and failed calls.
+/// Of an answer to `solve` that is no refusal and no read fault it is said only that it is the end of a search.
 pub fn due_answers()
     ensures judgment { JudgmentIsGiven }
     ensures refusal { RefusalIsGiven }
@@ -16,4 +18,8 @@ pub fn due_answers()
     ensures printed { PrintedFormIsGiven }
     ensures unprinted { FormatRefusalIsGiven }
     ensures no_file { FormatMissingIsGiven }
+    ensures searched { SearchIsGiven }
+    ensures unsearched { SolveRefusalIsGiven }
+    ensures no_atom { AtomRefusalIsGiven }
+    ensures no_definition { SolveMissingIsGiven }
 {}

@@ -6,6 +6,7 @@ mod command;
 mod format;
 mod laws;
 mod run;
+mod solve;
 mod source;
 mod status;
 mod text;

@@ -10,6 +10,7 @@ ghost use Rattle.fpc_cli.specs.Run.{HasFilesTo, HasOpenedTo, SpellsGoal, first_p
 use crate::answer::{Answer, Role, WANT_OF_MEMORY, status, text_of};
 use crate::command::{Command, Form, command_of};
 use crate::format::formatted;
+use crate::solve::solved;
 use crate::source::source_in;
 use crate::status::Status;
 use crate::words::Words;
@@ -174,6 +175,11 @@ fn answer<F: Files>(alloc: Global, words: &Words, files: &mut F) -> Answer
     match command_of(words) {
         Command::Verify { problem, explicit } => verified(alloc, problem, explicit, files),
         Command::Format { form, file } => formatted(alloc, form, file, files),
+        Command::Solve {
+            budget,
+            definition,
+            atom,
+        } => solved(alloc, budget, definition, atom, files),
         Command::Usage => Answer::Usage,
     }
 }
@@ -189,7 +195,8 @@ fn write<S: Sink>(status: Status, text: &[u8], out: &mut S) -> Status
 }
 
 /// Runs the program on its words: makes the whole output first, then writes it. The status is 0 for accepted and for a printed form, 1 for rejected,
-/// 3 for a refused file, 4 for words that are no command, 5 for a read fault, 6 for a write fault, 8 for want of memory.
+/// 2 for a budget that is spent, 3 for a refused file or atom, 4 for words that are no command, 5 for a read fault, 6 for a write fault,
+/// 7 for an atom whose text is too long, 8 for want of memory.
 pub fn run<F: Files, S: Sink>(alloc: Global, words: &Words, files: &mut F, out: &mut S) -> Status
     ensures answered { IsAnswered (asked_by words.now) (F.content files.old) (F.opened files.old) (F.opened files.new) (F.left files.new) (F.faults files.old) (F.faults files.new) result.code
         (S.faults out.old) (S.faults out.new) (S.taken out.old) (S.taken out.new) }

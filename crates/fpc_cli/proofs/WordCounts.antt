@@ -1,0 +1,17 @@
+-- Words of a known number.
+use Rattle.std.proofs.Common.{◌≡◌, ℕ, List, [], ◌∷◌, length, Some, sym, arith}
+use Rattle.std.specs.Prelude.{slice_get}
+use Rattle.fpc_cli.specs.Command.{asked_by, short_asked}
+
+-- three words ask for what a command and two words behind it ask for
+pub three-words : (words : List (List ℕ)) (a b c : List ℕ) → length words ≡ 3 → slice_get words 0 ≡ Some a → slice_get words 1 ≡ Some b → slice_get words 2 ≡ Some c
+    → short_asked a b c ≡ asked_by words
+three-words [] a b c n f s t = absurd (omega (arith, n))
+three-words (x ∷ []) a b c n f s t = absurd (omega (arith, n))
+three-words (x ∷ y ∷ []) a b c n f s t = absurd (omega (arith, n))
+three-words (x ∷ y ∷ z ∷ []) a b c n f s t =
+    let first : x ≡ a = cc in
+    let second : y ≡ b = cc in
+    let third : z ≡ c = cc in
+    let same : short_asked x y z ≡ short_asked a b c = cc in sym same
+three-words (x ∷ y ∷ z ∷ w ∷ ws) a b c n f s t = absurd (omega (arith, n))
