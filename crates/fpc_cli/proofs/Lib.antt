@@ -3,9 +3,9 @@ pub mod Contents
 pub mod FormatAnswer
 pub mod FormatDue
 pub mod WordCounts
-pub mod SearchNames
 pub mod SolveFacts
 pub mod SolveAnswer
 pub mod SolveDue
 pub mod RunFacts
 pub mod OneAnswer
+pub mod SearchOnce

@@ -300,13 +300,13 @@ usage-is content o o' left before now ReadFault found (asked, h) = absurd (asked
 usage-is content o o' left before now OutOfMemory found h = absurd found
 
 pub one-answer : DontMatter → HasOneAnswer
-one-answer numbers (verify p e) content told o o' q q' left left' before now before' now' calm calm' a b h k found found' apart =
+one-answer numbers (verify p e) content told o o' q q' left left' before now before' now' calm calm' a b h k found found' =
     one numbers p e content told.0 told.1 left left' a b (view numbers p e content told.0 told.1 o o' left before now calm a found h) (view numbers p e content told.0 told.1 q q' left' before' now' calm' b found' k)
-one-answer numbers (format form file) content told o o' q q' left left' before now before' now' calm calm' a b h k found found' apart =
+one-answer numbers (format form file) content told o o' q q' left left' before now before' now' calm calm' a b h k found found' =
     printing.one form file content told a b (printing.view form file content told o o' left before now calm a found h) (printing.view form file content told q q' left' before' now' calm' b found' k)
-one-answer numbers (solve budget d w) content told o o' q q' left left' before now before' now' calm calm' a b h k found found' apart =
-    searching.one budget d w content told a b (searching.view budget d w content told o o' left before now calm a found h) (searching.view budget d w content told q q' left' before' now' calm' b found' k) apart
-one-answer numbers usage content told o o' q q' left left' before now before' now' calm calm' a b h k found found' apart = usage-is content o o' left before now a found h ∙ sym (usage-is content q q' left' before' now' b found' k)
+one-answer numbers (solve budget d w) content told o o' q q' left left' before now before' now' calm calm' a b h k found found' =
+    searching.one budget d w content told a b (searching.view budget d w content told o o' left before now calm a found h) (searching.view budget d w content told q q' left' before' now' calm' b found' k)
+one-answer numbers usage content told o o' q q' left left' before now before' now' calm calm' a b h k found found' = usage-is content o o' left before now a found h ∙ sym (usage-is content q q' left' before' now' b found' k)
 
 module _ (numbers : DontMatter) (p e : List ℕ) (content : List ℕ → Content) (a : Answer) (h : IsGiven p e content a) where
   seen : View numbers p e content h.known_problem h.known_explicit h.left a

@@ -18,12 +18,13 @@ use Rattle.fpc_cli.specs.declared.answer.Role.TheVariants.{Problem, Definition, 
 use Rattle.fpc_cli.specs.declared.command.Form.TheVariants as form
 use Rattle.fpc_cli.specs.Command.{solve}
 use Rattle.fpc_cli.specs.Format.{RefusesForm, IsFormRefused}
-use Rattle.fpc_cli.specs.OneAnswer.{IsKnown, IsFound, IsSearched}
+use Rattle.fpc_cli.specs.OneAnswer.{IsKnown, IsFound}
 use Rattle.fpc_cli.specs.Held.{MayHold}
 use Rattle.fpc_cli.specs.Run.{IsCaused}
-use Rattle.fpc_cli.specs.Solve.{IsWholeDefinition, IsSearchedFrom, RefusesAtom, IsAtomRefused}
+use Rattle.fpc_cli.specs.Solve.{IsWholeDefinition, IsSearchAnswer, IsSearchedFrom, RefusesAtom, IsAtomRefused}
 use Rattle.fpc_cli.proofs.Contents.{same-bytes, small-or-large}
 use Rattle.fpc_cli.proofs.FormatAnswer.{refused-once}
+use Rattle.fpc_cli.proofs.SearchOnce.{searched-once}
 
 -- an atom as a term
 abbrev term_of : WrittenAtom → WrittenTerm
@@ -66,7 +67,7 @@ module _ (c : Content) (told : IsKnown c) where
 module _ (budget : ℕ) (d w : List ℕ) (content : List ℕ → Content) (told : IsKnown (content d)) where
   -- what an answer to `solve` is: the end of a search, a refusal of the file or of the atom, or that the file is missing
   pub data View : Answer → Type 0 where
-    ends : {a : Answer} → IsSearched a → IsSearchedFrom budget (content d) w a → content d ≢ missing → View a
+    ends : {a : Answer} → IsSearchedFrom budget (content d) w a → content d ≢ missing → View a
     refuses_file : {r : Refusal} → IsFormRefused form.Definition (content d) r → content d ≢ missing → View (Refused Definition r)
     refuses_atom : {r : Refusal} → IsAtomRefused (content d) w r → content d ≢ missing → View (Refused Atom r)
     no_file : content d ≡ missing → View ReadFault
@@ -76,10 +77,10 @@ module _ (budget : ℕ) (d w : List ℕ) (content : List ℕ → Content) (told 
   view o o' left before now calm (Accepted n) found (there, same, opened, judged, proved) = absurd judged
   view o o' left before now calm (Rejected k) found (there, same, opened, judged) = absurd judged
   view o o' left before now calm (Formatted text) found (same, h) = absurd h
-  view o o' left before now calm (Holds atom) found (same, (there, opened, searched, taken, ended)) = ends tt searched there
-  view o o' left before now calm NotProved found (same, (there, opened, searched, taken, ended)) = ends tt searched there
-  view o o' left before now calm BudgetSpent found (same, (there, opened, searched, taken, ended)) = ends tt searched there
-  view o o' left before now calm TooLong found (same, (there, opened, searched, taken, ended)) = ends tt searched there
+  view o o' left before now calm (Holds atom) found (same, (there, opened, searched, taken, ended)) = ends searched there
+  view o o' left before now calm NotProved found (same, (there, opened, searched, taken, ended)) = ends searched there
+  view o o' left before now calm BudgetSpent found (same, (there, opened, searched, taken, ended)) = ends searched there
+  view o o' left before now calm TooLong found (same, (there, opened, searched, taken, ended)) = ends searched there
   view o o' left before now calm (Refused Definition r) found (there, same, opened, refusal) = refuses_file refusal.0 there.1
   view o o' left before now calm (Refused Atom r) found (there, same, opened, refusal) = refuses_atom refusal.0.0 there.1
   view o o' left before now calm (Refused Problem r) found (there, same, opened, refusal) = absurd there.0
@@ -101,20 +102,25 @@ module _ (budget : ℕ) (d w : List ℕ) (content : List ℕ → Content) (told 
   file-or-atom : (r s : Refusal) → IsFormRefused form.Definition (content d) r → IsAtomRefused (content d) w s → ⊥
   file-or-atom r s h k = whole-kept (content d) told k.bytes r k.size k.whole k.held h
 
-  pub one : (a b : Answer) → View a → View b → (IsSearched a → IsSearched b → ⊥) → a ≡ b
-  one _ _ (ends s h there) (ends t k there') apart = absurd (apart s t)
-  one _ _ (ends {a = a} s h there) (refuses_file {r = r} k there') apart = absurd (searched-or-refused a r h k)
-  one _ _ (ends {a = a} s h there) (refuses_atom {r = r} k there') apart = absurd (searched-or-no_atom a r h k)
-  one _ _ (ends s h there) (no_file m) apart = absurd (there m)
-  one _ _ (refuses_file {r = r} h there) (ends {a = a} t k there') apart = absurd (searched-or-refused a r k h)
-  one _ _ (refuses_file {r = r} h there) (refuses_file {r = s} k there') apart = ap (Refused Definition) (refused-once form.Definition (content d) told r s h k)
-  one _ _ (refuses_file {r = r} h there) (refuses_atom {r = s} k there') apart = absurd (file-or-atom r s h k)
-  one _ _ (refuses_file h there) (no_file m) apart = absurd (there m)
-  one _ _ (refuses_atom {r = r} h there) (ends {a = a} t k there') apart = absurd (searched-or-no_atom a r k h)
-  one _ _ (refuses_atom {r = r} h there) (refuses_file {r = s} k there') apart = absurd (file-or-atom s r k h)
-  one _ _ (refuses_atom {r = r} h there) (refuses_atom {r = s} k there') apart = ap (Refused Atom) (word-refused_once w r s h.refuses k.refuses)
-  one _ _ (refuses_atom h there) (no_file m) apart = absurd (there m)
-  one _ _ (no_file m) (ends t k there') apart = absurd (there' m)
-  one _ _ (no_file m) (refuses_file k there') apart = absurd (there' m)
-  one _ _ (no_file m) (refuses_atom k there') apart = absurd (there' m)
-  one _ _ (no_file m) (no_file n) apart = refl
+  -- two ends of a search are one
+  both-searched : (a b : Answer) → IsSearchedFrom budget (content d) w a → IsSearchedFrom budget (content d) w b → a ≡ b
+  both-searched a b h k =
+      searched-once budget k.bytes w a b (subst (λ (x : List ℕ). IsSearchAnswer budget x w a) (same-bytes (content d) h.bytes k.bytes told h.held k.held) h.answered) k.answered
+
+  pub one : (a b : Answer) → View a → View b → a ≡ b
+  one _ _ (ends {a = a} h there) (ends {a = b} k there') = both-searched a b h k
+  one _ _ (ends {a = a} h there) (refuses_file {r = r} k there') = absurd (searched-or-refused a r h k)
+  one _ _ (ends {a = a} h there) (refuses_atom {r = r} k there') = absurd (searched-or-no_atom a r h k)
+  one _ _ (ends h there) (no_file m) = absurd (there m)
+  one _ _ (refuses_file {r = r} h there) (ends {a = a} k there') = absurd (searched-or-refused a r k h)
+  one _ _ (refuses_file {r = r} h there) (refuses_file {r = s} k there') = ap (Refused Definition) (refused-once form.Definition (content d) told r s h k)
+  one _ _ (refuses_file {r = r} h there) (refuses_atom {r = s} k there') = absurd (file-or-atom r s h k)
+  one _ _ (refuses_file h there) (no_file m) = absurd (there m)
+  one _ _ (refuses_atom {r = r} h there) (ends {a = a} k there') = absurd (searched-or-no_atom a r k h)
+  one _ _ (refuses_atom {r = r} h there) (refuses_file {r = s} k there') = absurd (file-or-atom s r k h)
+  one _ _ (refuses_atom {r = r} h there) (refuses_atom {r = s} k there') = ap (Refused Atom) (word-refused_once w r s h.refuses k.refuses)
+  one _ _ (refuses_atom h there) (no_file m) = absurd (there m)
+  one _ _ (no_file m) (ends k there') = absurd (there' m)
+  one _ _ (no_file m) (refuses_file k there') = absurd (there' m)
+  one _ _ (no_file m) (refuses_atom k there') = absurd (there' m)
+  one _ _ (no_file m) (no_file n) = refl

@@ -25,7 +25,7 @@ use Rattle.search_model.specs.declared.solve.Solved.{Solved}
 use Rattle.search_model.specs.declared.solve.Solved.TheVariants.{Accepted, Rejected, Spent, TooLong}
 use Rattle.fpc_cli.specs.declared.answer.Answer.{Answer}
 use Rattle.fpc_cli.specs.Solve.{IsRead, IsProgramOf, IsEndNamed, IsSearch, answer_of, IsSearchAnswer, IsAnswerTo}
-use Rattle.fpc_cli.proofs.SearchNames.{solved-below}
+use Rattle.search_model.proofs.NamesKept.{accepted-named}
 
 -- a table that grows keeps its length at least
 grows-length : (old new : List (List ℕ)) → Grows old new → length old ≤ length new
@@ -79,22 +79,11 @@ program-of old new grows d c bare (Ok p) joined words =
     record { any = bare.0; is_any = grows bare.0 (codes "any") bare.1.0; certificate = c; bare = bare.1.1; joined = joined; words = words }
 program-of old new grows d c bare (Err e) joined words = tt
 
--- a text that is not empty stands in the table
-name-below : (names : List (List ℕ)) (k : ℕ) (b : ℕ) (bs : List ℕ) → name_in names k ≡ b ∷ bs → k < length names
-name-below names k b bs e = elim (slice_get_cases names k).1 [
-  | inl h ↦ h.1
-  | inr h ↦ let past : name_in names k ≡ [] = get_or_past names k [] h.0 in let never : [] ≡ b ∷ bs = sym past ∙ e in cc
-]
-
--- the name `any` stands in the table of a program
-any-below : (names : List (List ℕ)) (p : Program) → HaveWords names p.ids → p.ids.any < length names
-any-below names p words = name-below names p.ids.any 97 (110 ∷ 121 ∷ []) (ap (λ xs. get_or xs 37 []) words)
-
 -- an accepted atom has its names in the table
 pub end-named : (names : List (List ℕ)) (p : Program) → IsProgram names p → (a : atom.Atom) → IsAtomNamedBelow (length names) a → (variables budget : ℕ)
     → (r : Result Solved OutOfMemory) → IfOk r (IsSolved names p a variables budget) → IfOk r (IsEndNamed (length names))
 end-named names p is a named variables budget (Ok (Accepted b units)) h =
-    rw h.0.atom (solved-below (length names) p.clauses is.clauses_named p.ids.any (any-below names p is.words) budget a variables named h.0.found units h.0.ends)
+    accepted-named names p a b variables budget units is.words is.clauses_named named h.0
 end-named names p is a named variables budget (Ok (Rejected units)) h = tt
 end-named names p is a named variables budget (Ok Spent) h = tt
 end-named names p is a named variables budget (Ok TooLong) h = tt

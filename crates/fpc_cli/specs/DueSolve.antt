@@ -12,9 +12,9 @@ use Rattle.fpc_cli.specs.declared.answer.Role.TheVariants.{Definition, Atom}
 use Rattle.fpc_cli.specs.declared.command.Form.TheVariants as form
 use Rattle.fpc_cli.specs.Command.{solve}
 use Rattle.fpc_cli.specs.Format.{IsFormRefused}
-use Rattle.fpc_cli.specs.OneAnswer.{IsKnown, IsFound, IsSearched}
+use Rattle.fpc_cli.specs.OneAnswer.{IsKnown, IsFound}
 use Rattle.fpc_cli.specs.Run.{IsCaused}
-use Rattle.fpc_cli.specs.Solve.{IsWholeDefinition, RefusesAtom}
+use Rattle.fpc_cli.specs.Solve.{IsSearchAnswer, IsWholeDefinition, RefusesAtom}
 
 -- the definition's file of `solve` is told, no count of faults rose, memory sufficed, and the answer has its cause
 pub record IsSolveGiven (budget : ℕ) (definition atom : List ℕ) (content : List ℕ → Content) (answer : Answer) : Type 0 where
@@ -34,10 +34,15 @@ pub record IsWholeAtom (word : List ℕ) : Type 0 where
   pub written : WrittenAtom
   pub reads : ReadsAll IsAtom AtomLimits [] (items_of word) written
 
--- Where the file holds a whole definition and the word is an atom, the answer is the end of a search.
+-- the answer is the end of the search over the bytes for the word's atom, and they have no other
+pub record IsItsSearch (budget : ℕ) (bytes word : List ℕ) (answer : Answer) : Type 0 where
+  pub answered : IsSearchAnswer budget bytes word answer
+  pub only : (other : Answer) → IsSearchAnswer budget bytes word other → other ≡ answer
+
+-- Where the file holds a whole definition and the word is an atom, the answer is the end of the search.
 abbrev pub SearchIsGiven : Type 0
 SearchIsGiven = (budget : ℕ) (definition atom : List ℕ) (content : List ℕ → Content) (answer : Answer) → IsSolveGiven budget definition atom content answer
-    → (bytes : List ℕ) → content definition ≡ holds bytes → length bytes ≤ 16777216 → IsWholeDefinition bytes → IsWholeAtom atom → IsSearched answer
+    → (bytes : List ℕ) → content definition ≡ holds bytes → length bytes ≤ 16777216 → IsWholeDefinition bytes → IsWholeAtom atom → IsItsSearch budget bytes atom answer
 
 -- where the definition's file is refused, the answer says so
 abbrev pub SolveRefusalIsGiven : Type 0

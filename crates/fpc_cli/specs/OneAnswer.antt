@@ -2,7 +2,7 @@
 use Rattle.std.specs.Prelude.{◌≡◌, ℕ, List, Option}
 use Rattle.fpc_base.specs.Outside.{Content, untold, missing, holds, Rose}
 use Rattle.fpc_cli.specs.declared.answer.Answer.{Answer}
-use Rattle.fpc_cli.specs.declared.answer.Answer.TheVariants.{Holds, NotProved, BudgetSpent, TooLong, OutOfMemory}
+use Rattle.fpc_cli.specs.declared.answer.Answer.TheVariants.{OutOfMemory}
 use Rattle.fpc_cli.specs.Command.{Asked, verify, format, solve, usage}
 use Rattle.fpc_cli.specs.Run.{IsCaused}
 
@@ -24,16 +24,7 @@ abbrev pub IsFound : Answer → Type 0
 IsFound OutOfMemory = ⊥
 IsFound _ = Unit {0}
 
--- the answer is the end of a search
-abbrev pub IsSearched : Answer → Type 0
-IsSearched (Holds atom) = Unit {0}
-IsSearched NotProved = Unit {0}
-IsSearched BudgetSpent = Unit {0}
-IsSearched TooLong = Unit {0}
-IsSearched _ = ⊥
-
--- Where the files tell their contents and no count of faults rose, two answers with a cause are the same, but for want of memory. Of two
--- ends of a search it is not said yet that they are the same.
+-- Where the files tell their contents and no count of faults rose, two answers with a cause are the same, but for want of memory.
 abbrev pub HasOneAnswer : Type 0
 HasOneAnswer = (asked : Asked) (content : List ℕ → Content) → AreKnown asked content → (opened now_opened opened' now_opened' : Option (List (List ℕ))) (left left' : Option (List ℕ)) (before now before' now' : ℕ) → (Rose before now → ⊥) → (Rose before' now' → ⊥)
-    → (a b : Answer) → IsCaused asked content opened now_opened left before now a → IsCaused asked content opened' now_opened' left' before' now' b → IsFound a → IsFound b → (IsSearched a → IsSearched b → ⊥) → a ≡ b
+    → (a b : Answer) → IsCaused asked content opened now_opened left before now a → IsCaused asked content opened' now_opened' left' before' now' b → IsFound a → IsFound b → a ≡ b

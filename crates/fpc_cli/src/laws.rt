@@ -4,13 +4,12 @@ ghost use Rattle.fpc_cli.specs.DueFormat.{PrintedFormIsGiven, FormatRefusalIsGiv
 ghost use Rattle.fpc_cli.specs.DueSolve.{SearchIsGiven, SolveRefusalIsGiven, AtomRefusalIsGiven, SolveMissingIsGiven};
 ghost use Rattle.fpc_cli.specs.OneAnswer.{HasOneAnswer};
 
-/// The words and the contents of the files have one answer, but for want of memory and failed calls. Of two ends of a search it is not said.
+/// The words and the contents of the files have one answer, but for want of memory and failed calls.
 pub fn one_answer()
     ensures { HasOneAnswer }
 {}
 
 /// The answer of `verify`, of `format` and of `solve` is the one that the contents of the files call for, but for want of memory and failed calls.
-/// Of an answer to `solve` that is no refusal and no read fault it is said only that it is the end of a search.
 pub fn due_answers()
     ensures judgment { JudgmentIsGiven }
     ensures refusal { RefusalIsGiven }
