@@ -1,5 +1,5 @@
 -- A search gives no names but those of its clauses and of the atom that is asked.
-use Rattle.std.proofs.Common.{◌≡◌, ℕ, zero, suc, ◌<◌, Bool, true, false, if◌then◌else◌, nat_eq, nat_lt, List, [], ◌∷◌, ◌++◌, length, Option, Some, None, refl, sym, ap, ◌∙◌, subst}
+use Rattle.std.proofs.Common.{◌≡◌, ℕ, zero, suc, ◌<◌, Bool, true, false, if◌then◌else◌, nat_eq, nat_lt, List, [], ◌∷◌, ◌++◌, length, Option, Some, None, subst}
 use Rattle.std.specs.Prelude.{◌&&◌, map}
 use Rattle.fpc_terms.specs.Equality.{Equality, same, parts, older, walk, clash, only_if, equality, walked_node}
 use Rattle.fpc_terms.specs.Open.{at_one, later, constant, level_of}
@@ -10,7 +10,7 @@ use Rattle.clause_language.specs.declared.clause.Clause.{Clause}
 use Rattle.clause_language.specs.LeastModel.{put_atom, fits}
 use Rattle.clause_language.specs.Naming.{AreTermsNamedBelow, IsAtomNamedBelow, AreAtomsNamedBelow, IsClauseNamedBelow, AreClausesNamedBelow}
 use Rattle.search_model.specs.Run.{Ending, ended, spent, one_more, run}
-use Rattle.search_model.specs.Search.{Goal, call, equate, emit, item, GoalList, Alternative, State, between, walking, Answer, accepted, rejected, answer, answer_of, equalities, extended, with_goals, put_goal, bound_to, by_clause, where_it_fits, by_clauses, equated, walked_on, behind_node, taken, step_of, step}
+use Rattle.search_model.specs.Search.{Goal, call, equate, emit, item, GoalList, Alternative, State, between, walking, Answer, accepted, rejected, answer, answer_of, equalities, extended, with_goals, put_goal, bound_to, by_clause, where_it_fits, by_clauses, equated, walked_on, behind_node, step_of, step}
 use Rattle.search_model.specs.Solve.{Nothing, no_calculus, solving, solved_atom}
 
 abbrev Goals : Type 0
