@@ -3,6 +3,7 @@ pub mod Contents
 pub mod FormatAnswer
 pub mod FormatDue
 pub mod WordCounts
+pub mod Budgets
 pub mod SolveFacts
 pub mod SolveAnswer
 pub mod SolveDue

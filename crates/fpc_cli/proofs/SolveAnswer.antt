@@ -2,10 +2,10 @@
 use Rattle.std.proofs.Common.{◌≡◌, ◌≢◌, ℕ, ◌≤◌, List, [], length, Option, Some, None, refl, sym, ap, ◌∙◌, subst, arith, inl, inr}
 use Rattle.fpc_base.specs.Lexeme.{Lexeme, items_of}
 use Rattle.fpc_base.specs.Outside.{Content, missing, Rose}
-use Rattle.fpc_base.specs.Reading.{ReadsAll, RefusesAll}
+use Rattle.fpc_base.specs.Reading.{ReadsAll}
 use Rattle.fpc_base.specs.declared.refusal.Refusal.{Refusal}
 use Rattle.fpc_terms.specs.ReadTerm.{any_variable}
-use Rattle.fpc_terms.specs.Written.{WrittenTerm, WrittenArgs, application, IsTerm}
+use Rattle.fpc_terms.specs.Written.{WrittenTerm, application, IsTerm}
 use Rattle.fpc_terms.proofs.AnyTerm.{any-term, term_limits-once}
 use Rattle.fpc_terms.proofs.TermReading.{is-whole}
 use Rattle.polarised_formulas.proofs.ReadingLaws.{all-not_both, all-refused_once}

@@ -1,7 +1,6 @@
 -- The answer to `solve` is the one that the contents of the definition's file call for.
 use Rattle.std.proofs.Common.{◌≡◌, ℕ, ◌≤◌, List, length, refl, sym, ◌∙◌, subst}
 use Rattle.fpc_base.specs.Outside.{Content, missing, holds}
-use Rattle.fpc_base.specs.declared.refusal.Refusal.{Refusal}
 use Rattle.fpc_cli.specs.declared.answer.Answer.{Answer}
 use Rattle.fpc_cli.specs.declared.answer.Answer.TheVariants.{Refused, ReadFault}
 use Rattle.fpc_cli.specs.declared.answer.Role.TheVariants.{Definition, Atom}

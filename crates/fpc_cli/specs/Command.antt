@@ -1,5 +1,5 @@
 -- What the program's words ask for.
-use Rattle.std.specs.Prelude.{ℕ, ◌+◌, ◌-◌, ◌*◌, nat_eq, nat_le, Bool, false, not, ◌==◌, ◌&&◌, if◌then◌else◌, List, [], ◌∷◌, codes, bytes_eq, Option, Some, None}
+use Rattle.std.specs.Prelude.{◌≡◌, ◌↔◌, ◌≤◌, ℕ, ◌+◌, ◌-◌, ◌*◌, nat_eq, nat_le, Bool, false, not, ◌==◌, ◌&&◌, if◌then◌else◌, List, [], ◌∷◌, codes, decimal, bytes_eq, Option, Some, None}
 use Rattle.std.specs.List.{starts_with}
 use Rattle.fpc_base.specs.Tokens.{is_digit}
 use Rattle.fpc_cli.specs.declared.answer.Role.{Role}
@@ -65,6 +65,10 @@ with_digits n (b ∷ bs) = elim (with_digit n b) [ Some m ↦ with_digits m bs |
 abbrev pub budget_said : List ℕ → Option ℕ
 budget_said [] = None
 budget_said (b ∷ bs) = if nat_eq b 48 then None else with_digits 0 (b ∷ bs)
+
+-- a word says a budget exactly where it has the decimal digits of a number from 1 to the most units
+abbrev pub BudgetIsDecimal : Type 0
+BudgetIsDecimal = (word : List ℕ) (n : ℕ) → budget_said word ≡ Some n ↔ ((word ≡ decimal n) × (1 ≤ n) × (n ≤ most_budget))
 
 -- a word that can name a definition's file: it can name a file, and does not begin as the name of a definition that is built in
 abbrev pub is_definition_word : List ℕ → Bool

@@ -30,9 +30,15 @@ impl Form {
 #[derive(Clone, Copy, PartialEq, Eq, Debug)]
 pub enum Command<'a> {
     /// Verify the explicit certificate in one file against the problem in another.
-    Verify { problem: &'a str, explicit: &'a str },
+    Verify {
+        problem: &'a str,
+        explicit: &'a str,
+    },
     /// Print the printed form of a file.
-    Format { form: Form, file: &'a str },
+    Format {
+        form: Form,
+        file: &'a str,
+    },
     /// Search for an instance of an atom that holds by the definition in a file, within a budget of units.
     Solve {
         budget: u64,

@@ -1,4 +1,5 @@
 //! Laws over the definition of the program's answers. The functions do nothing: their contracts say the laws.
+ghost use Rattle.fpc_cli.specs.Command.{BudgetIsDecimal};
 ghost use Rattle.fpc_cli.specs.Due.{JudgmentIsGiven, MissingIsGiven, RefusalIsGiven};
 ghost use Rattle.fpc_cli.specs.DueFormat.{PrintedFormIsGiven, FormatRefusalIsGiven, FormatMissingIsGiven};
 ghost use Rattle.fpc_cli.specs.DueSolve.{SearchIsGiven, SolveRefusalIsGiven, AtomRefusalIsGiven, SolveMissingIsGiven};
@@ -21,4 +22,9 @@ pub fn due_answers()
     ensures unsearched { SolveRefusalIsGiven }
     ensures no_atom { AtomRefusalIsGiven }
     ensures no_definition { SolveMissingIsGiven }
+{}
+
+/// A word says a budget exactly where it has the decimal digits of a number from 1 to the most units.
+pub fn budgets()
+    ensures { BudgetIsDecimal }
 {}

@@ -737,8 +737,7 @@ const COLOURS: &[u8] = b"lkf col(red,a). col(green,b). col(blue,c).";
 
 const SAME: &[u8] = b"lkf same(Z,Z).";
 
-const APPEND: &[u8] =
-    b"lkf append(nil,Y,Y). append(cons(X,R),Y,cons(X,S)) :- append(R,Y,S).";
+const APPEND: &[u8] = b"lkf append(nil,Y,Y). append(cons(X,R),Y,cons(X,S)) :- append(R,Y,S).";
 
 #[test]
 fn an_atom_holds_with_what_was_found(rt: HostRuntime) -> Result<(), Fail> {
@@ -749,11 +748,7 @@ fn an_atom_holds_with_what_was_found(rt: HostRuntime) -> Result<(), Fail> {
             "accepted\ncol(blue,c)\n",
         ),
         (COLOURS, "problem col(blue,X)", "accepted\ncol(blue,c)\n"),
-        (
-            SAME,
-            "problem same(X,f(a))",
-            "accepted\nsame(f(a),f(a))\n",
-        ),
+        (SAME, "problem same(X,f(a))", "accepted\nsame(f(a),f(a))\n"),
         (
             APPEND,
             "problem append(X,Y,cons(a,nil))",
@@ -795,12 +790,7 @@ fn a_search_ends_without_an_atom(rt: HostRuntime) -> Result<(), Fail> {
             "budget spent\n",
         ),
         (SAME, "--budget 5 problem same(X,f(X))", 1, "rejected\n"),
-        (
-            SAME,
-            "--budget 4 problem same(X,f(X))",
-            2,
-            "budget spent\n",
-        ),
+        (SAME, "--budget 4 problem same(X,f(X))", 2, "budget spent\n"),
         (COLOURS, "problem col(a)", 1, "rejected\n"),
         (
             b"lkf p :- p.",
