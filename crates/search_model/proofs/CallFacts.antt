@@ -1,6 +1,5 @@
 -- Facts of calls and their alternatives.
-use Rattle.std.specs.Prelude.{◌≡◌, ℕ, List, [], ◌∷◌, ◌++◌, map, length, replicate, None, refl}
-use Rattle.std.proofs.Common.{ap, ◌∙◌, sym}
+use Rattle.std.specs.Prelude.{◌≡◌, ℕ, List, ◌++◌, map, length, replicate, None, refl}
 use Rattle.fpc_terms.specs.Open.{Level, later}
 use Rattle.fpc_terms.specs.Term.{Term, put}
 use Rattle.clause_language.specs.declared.atom.Atom.{Atom}
@@ -17,6 +16,6 @@ module _ (rest : Alternative Nothing Nothing) (atom : Atom) (clause : Clause) (o
       → called ≡ map (λ b. call (put_atom (later offset) b)) clause.body ++ next.goals → goals ≡ equalities atom.arguments head called
       → levels ≡ next.levels ++ replicate clause.variables None
       → record { goals = goals; emitted = next.emitted; asked = next.asked; levels = levels }
-          ≡ extended rest (by_clause no_calculus atom (length rest.levels) clause)
+      ≡ extended rest (by_clause no_calculus atom (length rest.levels) clause)
   answered-is next called goals levels same at heads calls all lowered =
       rw (all, calls, heads, lowered, at, same) (rw (equalities-append atom.arguments (map (put (later (length rest.levels))) clause.head.arguments) (map (λ b. call (put_atom (later (length rest.levels)) b)) clause.body) rest.goals) refl)

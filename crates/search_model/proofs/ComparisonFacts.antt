@@ -1,11 +1,11 @@
 -- Facts of the first cells of terms.
-use Rattle.std.specs.Prelude.{◌≡◌, ℕ, List, [], refl, get_or, length, ◌<◌, suc}
+use Rattle.std.specs.Prelude.{◌≡◌, List, refl, get_or, length, ◌<◌}
 use Rattle.fpc_terms.specs.declared.cell.Cell.{Cell}
 use Rattle.fpc_terms.specs.Equality.{equality, parts}
 use Rattle.fpc_terms.proofs.EqualityFacts.{AreAsMany, equality_as_many}
-use Rattle.fpc_terms.specs.Term.{Term, eigen, bound, variable, app, cells_of, all_before, terms_in, arguments_in}
+use Rattle.fpc_terms.specs.Term.{Term, eigen, bound, variable, app, cells_of, terms_in, arguments_in}
 use Rattle.search_model.specs.States.{args_in, first_cell}
-use Rattle.std.proofs.Common.{arith, ap, ap₂, sym, subst, ◌∙◌}
+use Rattle.std.proofs.Common.{arith, ap, sym, subst, ◌∙◌}
 
 -- a term's cells begin with the first one
 pub first-cells_of : (t : Term) (d : Cell) → get_or (cells_of t) 0 d ≡ first_cell t
@@ -34,4 +34,3 @@ terms-args_in (app f ts) = refl
 -- terms whose equality comes to that of their arguments have as many
 pub parts-as_many : (t u : Term) → parts (args_in t) (args_in u) ≡ equality t u → length (arguments_in t) ≡ length (arguments_in u)
 parts-as_many t u is = ap length (sym (terms-args_in t)) ∙ subst AreAsMany (sym is) (equality_as_many t u) ∙ ap length (terms-args_in u)
-

@@ -1,11 +1,11 @@
 -- Facts of the loop over the stack of alternatives.
-use Rattle.std.specs.Prelude.{◌≡◌, ◌≢◌, ℕ, zero, suc, ◌+◌, ◌-◌, ◌≤◌, Bool, true, false, List, [], ◌∷◌, ◌++◌, length, refl, Option, Some, None}
-use Rattle.std.proofs.Common.{ap, ap₂, ◌∙◌, sym, arith}
+use Rattle.std.specs.Prelude.{◌≡◌, ◌≢◌, ℕ, zero, suc, ◌-◌, ◌≤◌, List, [], ◌∷◌, ◌++◌, length, refl, Some}
+use Rattle.std.proofs.Common.{ap, ◌∙◌, sym, arith}
 use Rattle.clause_language.specs.declared.clause.Clause.{Clause}
-use Rattle.search_model.specs.Run.{Ending, ended, spent, one_more, run}
+use Rattle.search_model.specs.Run.{Ending, ended, spent, run}
 use Rattle.search_model.specs.Search as search
 use Rattle.search_model.specs.Solve.{Nothing, no_calculus}
-use Rattle.search_model.specs.States.{goal_of, goals_of, alternative_of, alternatives_of, raise, running, on_from, IsFound}
+use Rattle.search_model.specs.States.{goal_of, goals_of, alternative_of, alternatives_of, raise, running, IsFound}
 use Rattle.search_model.specs.declared.alternative.Goal.{Goal}
 use Rattle.search_model.specs.declared.alternative.Alternative.{Alternative}
 use Rattle.search_model.specs.declared.solve.Found.TheVariants.{Accepted}
@@ -57,7 +57,7 @@ module _ (clauses : List Clause) where
           where
             go : (n : ℕ) → n ≢ 0
                 → raise k (running clauses n (search.between (search.with_goals (alternative_of a) (goal_of g ∷ goals_of gs) ∷ alternatives_of below)))
-                  ≡ raise (suc k) (running clauses (n - 1) (search.taken no_calculus clauses (goal_of g) (search.with_goals (alternative_of a) (goals_of gs)) (alternatives_of below)))
+                ≡ raise (suc k) (running clauses (n - 1) (search.taken no_calculus clauses (goal_of g) (search.with_goals (alternative_of a) (goals_of gs)) (alternatives_of below)))
             go zero some = absurd (some refl)
             go (suc n) some = raise-one-more k _ ∙ ap (λ m. raise (suc k) (running clauses m (search.taken no_calculus clauses (goal_of g) (search.with_goals (alternative_of a) (goals_of gs)) (alternatives_of below)))) (omega arith)
 

@@ -1,5 +1,5 @@
 -- The answer of the plain search is right.
-use Rattle.std.specs.Prelude.{◌≡◌, ℕ, ◌<◌, ◌≤◌, ◌-◌, Bool, true, false, nat_le, if◌then◌else◌, List, map, length, replicate, Option, Some, None}
+use Rattle.std.specs.Prelude.{◌≡◌, ℕ, ◌<◌, ◌≤◌, ◌-◌, Bool, true, false, nat_le, if◌then◌else◌, List, map, Some, None}
 use Rattle.std.proofs.Common.{ap, ◌∙◌, sym, subst, arith, refl}
 use Rattle.std.proofs.lemmas.Bool.Decides.{nat_tests}
 use Rattle.fpc_terms.specs.Open.{AreOpen, constant}
@@ -9,9 +9,9 @@ use Rattle.clause_language.specs.declared.atom.Atom.{Atom}
 use Rattle.clause_language.specs.declared.clause.Clause.{Clause}
 use Rattle.clause_language.specs.declared.program.Program.{Program}
 use Rattle.clause_language.specs.LeastModel.{AreOpenClauses}
-use Rattle.search_model.specs.Run.{ended, spent}
-use Rattle.search_model.specs.Search.{Alternative, Answer, State, accepted, answer, call, rejected, start, step}
-use Rattle.search_model.specs.Solve.{IsAccepted, IsRight, IsSolved, IsSound, IsTooLong, Nothing, atom_text, no_calculus, solved_atom, solving, text_limit}
+use Rattle.search_model.specs.Run.{ended}
+use Rattle.search_model.specs.Search.{Answer, State, accepted, answer, call, rejected, start, step}
+use Rattle.search_model.specs.Solve.{IsAccepted, IsRight, IsSound, Nothing, no_calculus, solving}
 use Rattle.search_model.specs.States.{IsFound}
 use Rattle.search_model.specs.declared.solve.Found.TheVariants as found
 use Rattle.search_model.specs.declared.solve.Solved.TheVariants as solved
@@ -53,8 +53,8 @@ module _ (p : Program) (asked : Atom) (variables budget : ℕ) where
     pub accepted-right : (a : Atom) (units : ℕ) → IsAccepted p asked variables budget a units → IsSound p.clauses asked a
     accepted-right a units r =
         subst (IsSound p.clauses asked) (sym r.atom)
-            (let i = solved_instance p.clauses asked opens variables is_open p.ids.any budget units r.found r.ends in
-             record { holds = solved_holds p.clauses asked opens variables is_open p.ids.any budget units r.found r.ends; terms = i.0; ground = i.1; is_instance = i.2 })
+        (let i = solved_instance p.clauses asked opens variables is_open p.ids.any budget units r.found r.ends in
+        record { holds = solved_holds p.clauses asked opens variables is_open p.ids.any budget units r.found r.ends; terms = i.0; ground = i.1; is_instance = i.2 })
 
     -- no instance of a rejected atom holds
     pub rejected-right : (units : ℕ) → solving p.clauses budget asked variables ≡ ended rejected units → IsRight p.clauses asked (solved.Rejected units)
@@ -63,3 +63,6 @@ module _ (p : Program) (asked : Atom) (variables budget : ℕ) where
   -- the units of an outcome are within the budget
   pub units-within : (units : ℕ) (r : Answer Nothing Nothing) → solving p.clauses budget asked variables ≡ ended r units → units ≤ budget
   units-within units r e = (solving-settled p.clauses asked variables budget units r e).within
+
+  pub accepted-within : (a : Atom) (units : ℕ) → IsAccepted p asked variables budget a units → units ≤ budget
+  accepted-within a units r = units-within units (accepted r.found) r.ends

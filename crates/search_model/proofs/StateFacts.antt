@@ -1,9 +1,9 @@
 -- Facts of the program's states.
-use Rattle.std.specs.Prelude.{◌≡◌, ℕ, List, [], ◌∷◌, ◌++◌, map, reverse, refl, set, length, get_or, drop, ◌-◌, ◌<◌, ◌≤◌}
+use Rattle.std.specs.Prelude.{◌≡◌, ℕ, List, [], ◌∷◌, ◌++◌, map, reverse, refl, length, get_or, drop, ◌-◌, ◌<◌, ◌≤◌}
 use Rattle.std.proofs.Common.{ap, ap₂, ◌∙◌, sym, arith}
 use Rattle.std.proofs.lemmas.List.{map-append, reverse-append, drop_more}
 use Rattle.fpc_terms.specs.declared.cell.Cell.{Cell}
-use Rattle.fpc_terms.specs.Open.{Level, level_of, lower, lower_in, lower_in_args, at_one}
+use Rattle.fpc_terms.specs.Open.{Level, level_of, lower_in, lower_in_args, at_one}
 use Rattle.fpc_terms.specs.Term.{Term, Args, eigen, bound, variable, app, no_args, arg, cells_before, all_before, cells_of, put}
 use Rattle.search_model.specs.Search as search
 use Rattle.search_model.specs.Solve.{no_calculus, Nothing}

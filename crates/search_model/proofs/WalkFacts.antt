@@ -1,5 +1,5 @@
 -- The walk through cells is the walk of the search.
-use Rattle.std.specs.Prelude.{◌≡◌, ℕ, zero, suc, ◌+◌, ◌-◌, ◌≤◌, Bool, true, false, if◌then◌else◌, List, [], ◌∷◌, refl, Some, Option}
+use Rattle.std.specs.Prelude.{◌≡◌, ℕ, zero, suc, ◌+◌, ◌-◌, ◌≤◌, Bool, true, false, if◌then◌else◌, List, [], ◌∷◌, refl}
 use Rattle.std.proofs.Common.{ap, ap₂, ◌∙◌, sym, arith}
 use Rattle.fpc_terms.specs.declared.cell.Cell.{Cell}
 use Rattle.fpc_terms.specs.Equality.{unless, walked_node}
@@ -79,11 +79,11 @@ module _ (clauses : List Clause) (v : ℕ) (t : Term) (a : Alternative Nothing N
   at-node : (n : ℕ) (x : Term) (xs : Args) (b : Bool)
       → ((ys : Args) → running clauses n (walked_on no_calculus v t ys a others) ≡ goes_on n (walk_through v (level_of a.levels v) (all_before ys []) n))
       → one_more (running clauses n (behind_node no_calculus v t (unless b (args_in x)) xs a others))
-        ≡ goes_on (suc n) (if b then (Clashed, n) else walk_through v (level_of a.levels v) (all_before (args_in x) (all_before xs [])) n)
+      ≡ goes_on (suc n) (if b then (Clashed, n) else walk_through v (level_of a.levels v) (all_before (args_in x) (all_before xs [])) n)
   at-node n x xs true runs = sym (raise-one _) ∙ ap (λ k. raise k (running clauses n (between others))) (omega arith)
   at-node n x xs false runs =
       ap one_more (runs (joined (args_in x) xs) ∙ ap (λ cells. goes_on n (walk_through v (level_of a.levels v) cells n)) (all-joined (args_in x) xs []))
-          ∙ one-more n _ _ (walk-le v (level_of a.levels v) (all_before (args_in x) (all_before xs [])) n)
+      ∙ one-more n _ _ (walk-le v (level_of a.levels v) (all_before (args_in x) (all_before xs [])) n)
 
   -- the walk of the search ends as the walk through the cells
   pub walk-runs : (n : ℕ) (xs : Args) → running clauses n (walked_on no_calculus v t xs a others) ≡ goes_on n (walk_through v (level_of a.levels v) (all_before xs []) n)
@@ -91,7 +91,7 @@ module _ (clauses : List Clause) (v : ℕ) (t : Term) (a : Alternative Nothing N
   walk-runs zero (arg x xs) = rw (cells-first x (all_before xs [])) refl
   walk-runs (suc n) (arg x xs) =
       rw (cells-first x (all_before xs []), node-is v (level_of a.levels v) x)
-          (at-node n x xs (is_clash v (level_of a.levels v) (first_cell x)) (λ ys. walk-runs n ys))
+      (at-node n x xs (is_clash v (level_of a.levels v) (first_cell x)) (λ ys. walk-runs n ys))
 
   -- the walk through a whole term
   pub term-runs : (n : ℕ) → running clauses n (walking v t t no_args a others) ≡ goes_on n (walk_through v (level_of a.levels v) (cells_of t) n)

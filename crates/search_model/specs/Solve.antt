@@ -8,7 +8,7 @@ use Rattle.clause_language.specs.declared.program.Program.{Program}
 use Rattle.clause_language.specs.LeastModel.{put_atom, Holds}
 use Rattle.clause_language.specs.Text.{atom_before}
 use Rattle.search_model.specs.Run.{Ending, ended, spent}
-use Rattle.search_model.specs.Search.{SearchCalculus, Goal, call, Alternative, Answer, accepted, rejected, search}
+use Rattle.search_model.specs.Search.{SearchCalculus, call, Alternative, Answer, accepted, rejected, search}
 use Rattle.search_model.specs.declared.solve.Solved.{Solved}
 use Rattle.search_model.specs.declared.solve.Solved.TheVariants.{Accepted, Rejected, Spent, TooLong}
 
@@ -78,12 +78,12 @@ pub record IsSound (clauses : List Clause) (asked a : Atom) : Type 0 where
   pub ground : (n : ℕ) → IsGround (terms n)
   pub is_instance : a ≡ put_atom terms asked
 
--- an accepted atom is sound, and where the search is rejected no instance of the atom is in the least model
+-- an accepted atom is sound, one whose text is too long as well, and where the search is rejected no instance of the atom is in the least model
 abbrev pub IsRight : List Clause → Atom → Solved → Type 0
 IsRight clauses asked (Accepted a units) = IsSound clauses asked a
 IsRight clauses asked (Rejected units) = (s : ℕ → Term) → ((n : ℕ) → IsGround (s n)) → ¬ (Holds clauses (put_atom s asked))
 IsRight clauses asked Spent = Unit {0}
-IsRight clauses asked TooLong = Unit {0}
+IsRight clauses asked TooLong = (a : Atom) × IsSound clauses asked a
 
 -- An outcome with so many units is the same within each budget that has them, and within no smaller budget is there an outcome.
 abbrev pub OutcomeIsSettled : Type 0

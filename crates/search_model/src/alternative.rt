@@ -7,11 +7,11 @@ ghost use Rattle.search_model.specs.Search.{put_goal, bound_to, equalities, call
 ghost use Rattle.search_model.specs.Solve.{no_calculus};
 ghost use Rattle.search_model.specs.States.{goal_of, goals_of, alternative_of, lower_cells};
 
-use fpc_terms::substitution::{all_with_later_variables, all_with_term, with_term};
 use clause_language::atom::Atom;
 use fpc_base::outside::OutOfMemory;
 use fpc_terms::cell::Cell;
 use fpc_terms::list::Terms;
+use fpc_terms::substitution::{all_with_later_variables, all_with_term, with_term};
 use fpc_terms::term::TermBuf;
 use std::alloc::Global;
 
@@ -36,7 +36,12 @@ pub struct Alternative {
 }
 
 /// An atom with a term for a variable.
-fn bound_atom(alloc: Global, atom: &Atom, variable: u64, term: &TermBuf) -> Result<Atom, OutOfMemory>
+fn bound_atom(
+    alloc: Global,
+    atom: &Atom,
+    variable: u64,
+    term: &TermBuf,
+) -> Result<Atom, OutOfMemory>
     ensures { IfOk result (λ a. a ≡ put_atom (at_one variable term.now) atom.now) }
 {
     Ok(Atom {
@@ -46,7 +51,12 @@ fn bound_atom(alloc: Global, atom: &Atom, variable: u64, term: &TermBuf) -> Resu
 }
 
 /// A goal with a term for a variable.
-fn bound_goal(alloc: Global, goal: &Goal, variable: u64, term: &TermBuf) -> Result<Goal, OutOfMemory>
+fn bound_goal(
+    alloc: Global,
+    goal: &Goal,
+    variable: u64,
+    term: &TermBuf,
+) -> Result<Goal, OutOfMemory>
     ensures { IfOk result (λ g. goal_of g ≡ put_goal no_calculus (at_one variable term.now) (goal_of goal.now)) }
 {
     match goal {
@@ -59,7 +69,12 @@ fn bound_goal(alloc: Global, goal: &Goal, variable: u64, term: &TermBuf) -> Resu
 }
 
 /// Goals with a term for a variable.
-fn bound_goals(alloc: Global, goals: &[Goal], variable: u64, term: &TermBuf) -> Result<Vec<Goal>, OutOfMemory>
+fn bound_goals(
+    alloc: Global,
+    goals: &[Goal],
+    variable: u64,
+    term: &TermBuf,
+) -> Result<Vec<Goal>, OutOfMemory>
     ensures { IfOk result (λ gs. map goal_of gs.items ≡ map (put_goal no_calculus (at_one variable term.now)) (map goal_of goals.now)) }
 {
     let mut bound = Vec::new(alloc);
@@ -169,15 +184,28 @@ impl Alternative {
     }
 
     /// The alternative with a term for a variable everywhere.
-    pub(crate) fn bound_to(self, alloc: Global, variable: u64, term: &TermBuf) -> Result<Alternative, OutOfMemory>
+    pub(crate) fn bound_to(
+        self,
+        alloc: Global,
+        variable: u64,
+        term: &TermBuf,
+    ) -> Result<Alternative, OutOfMemory>
         ensures { IfOk result (λ a. alternative_of a ≡ bound_to no_calculus variable term.now (alternative_of self)) }
     {
-        let Alternative { goals, asked, levels } = self;
+        let Alternative {
+            goals,
+            asked,
+            levels,
+        } = self;
         let goals = bound_goals(alloc, goals.as_slice(), variable, term)?;
         let asked = all_with_term(alloc, asked.items(), variable, term)?;
         let mut levels = levels;
         let level = level_at(levels.as_slice(), variable);
         lower_levels(&mut levels, level, term.cells());
-        Ok(Alternative { goals, asked, levels })
+        Ok(Alternative {
+            goals,
+            asked,
+            levels,
+        })
     }
 }

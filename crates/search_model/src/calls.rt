@@ -9,20 +9,16 @@ ghost use Rattle.search_model.specs.Solve.{no_calculus};
 ghost use Rattle.search_model.specs.States.{alternative_of, alternatives_of, goals_of};
 
 use crate::alternative::{Alternative, Goal, copied_term};
-use fpc_terms::substitution::all_with_later_variables;
 use clause_language::atom::Atom;
 use clause_language::clause::Clause;
 use fpc_base::outside::OutOfMemory;
 use fpc_terms::arguments::arguments;
+use fpc_terms::substitution::all_with_later_variables;
 use fpc_terms::term::TermBuf;
 use std::alloc::Global;
 
 /// Puts the equality of two terms before goals.
-fn push_equality(
-    goals: &mut Vec<Goal>,
-    left: &TermBuf,
-    right: &TermBuf,
-) -> Result<(), OutOfMemory>
+fn push_equality(goals: &mut Vec<Goal>, left: &TermBuf, right: &TermBuf) -> Result<(), OutOfMemory>
     ensures { OnOk result (goals_of goals.new.items ≡ equate left.now right.now ∷ goals_of goals.old.items) }
 {
     goals.push(Goal::Equate(copied_term(left)?, copied_term(right)?))?;
@@ -87,7 +83,10 @@ fn push_calls(
 }
 
 /// Adds variables without level.
-pub(crate) fn push_variables(levels: &mut Vec<Option<u64>>, variables: u64) -> Result<(), OutOfMemory>
+pub(crate) fn push_variables(
+    levels: &mut Vec<Option<u64>>,
+    variables: u64,
+) -> Result<(), OutOfMemory>
     ensures { OnOk result (levels.new.items ≡ levels.old.items ++ replicate variables NoLevel) }
 {
     for _ in 0..variables {
@@ -132,7 +131,7 @@ fn push_answered(
 ) -> Result<(), OutOfMemory>
     ensures { OnOk result (alternatives_of stack.new.items
         ≡ map (extended (alternative_of rest.now)) (where_it_fits no_calculus (fits atom.now clause.now.head) (by_clause no_calculus atom.now (length rest.now.levels.items) clause.now) [])
-            ++ alternatives_of stack.old.items) }
+        ++ alternatives_of stack.old.items) }
 {
     if fits(atom, &clause.head) {
         stack.push(answered(alloc, clause, atom, rest)?)?;

@@ -31,7 +31,12 @@ fn is_clash(variable: u64, level: Option<u64>, cell: Cell) -> bool
 }
 
 /// Walks through the cells of a term for a variable, at one unit before each.
-pub(crate) fn walk_through(cells: &[Cell], variable: u64, level: Option<u64>, units: &mut u64) -> Walked
+pub(crate) fn walk_through(
+    cells: &[Cell],
+    variable: u64,
+    level: Option<u64>,
+    units: &mut u64,
+) -> Walked
     ensures ends { result ≡ (walk_through variable level cells.now units.old).0 }
     ensures left { units.new ≡ (walk_through variable level cells.now units.old).1 }
 {

@@ -1,4 +1,4 @@
-use Rattle.std.proofs.Common.{◌≡◌, arith}
+use Rattle.std.proofs.Common.{arith}
 use Rattle.fpc_terms.specs.Open.{later}
 use Rattle.clause_language.specs.LeastModel.{put_atom}
 use Rattle.search_model.specs.Search.{call}

@@ -1,4 +1,3 @@
-use Rattle.std.proofs.Common.{◌≡◌, ◌∙◌, sym, ap}
 use Rattle.search_model.proofs.ComparisonFacts.{first-read, some-cells_of}
 use Rattle.search_model.proofs.comparison.compare.Goals as goal
 

@@ -1,4 +1,4 @@
-use Rattle.std.proofs.Common.{◌≡◌, ◌∙◌, ◌-◌, sym, ap, subst}
+use Rattle.std.proofs.Common.{sym, ap}
 use Rattle.fpc_terms.specs.Term.{variable}
 use Rattle.search_model.specs.Search.{between, bound_to}
 use Rattle.search_model.specs.Solve.{no_calculus}

@@ -1,4 +1,3 @@
-use Rattle.std.proofs.Common.{◌≡◌}
 use Rattle.search_model.proofs.solve.take.Goals as goal
 
 pub returns-in-Equate-clause-step : goal.returns-in-Equate-clause-step

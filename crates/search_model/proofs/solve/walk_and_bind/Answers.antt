@@ -1,4 +1,4 @@
-use Rattle.std.proofs.Common.{◌≡◌, ◌≤◌, ◌-◌, ◌∙◌, sym, ap}
+use Rattle.std.proofs.Common.{◌-◌, ◌∙◌, ap}
 use Rattle.search_model.specs.Search.{between}
 use Rattle.search_model.specs.States.{alternative_of, alternatives_of, raise, running}
 use Rattle.search_model.specs.declared.walk.Walked.TheVariants.{Passed, Clashed, OutOfUnits}
@@ -26,4 +26,4 @@ returns-in_ok-push-in-Passed-clause-left c = rw c.in-Passed.ensures.left (walk-l
 pub returns-in_ok-push-in-Passed-clause-step : goal.returns-in_ok-push-in-Passed-clause-step
 returns-in_ok-push-in-Passed-clause-step c =
     λ clauses. step-runs clauses c.args.variable c.args.term.now (alternative_of c.args.first) (alternatives_of c.args.stack.now.items) c.args.units.now c.level-level.result c.cells.result.now Passed c.walk_through.new.units c.level-level.ensures c.cells.ensures c.in-Passed.ensures.ends c.in-Passed.ensures.left
-        ∙ ap (λ q. raise (c.args.units.now - c.walk_through.new.units) (running clauses c.walk_through.new.units (between q))) (alternatives-push c.args.stack.now.items c.push.new.self.items c.in_ok-bound_to-in-Passed.field-0 _ c.in_ok-push-in-Passed.ensures.items c.in_ok-bound_to-in-Passed.ensures)
+    ∙ ap (λ q. raise (c.args.units.now - c.walk_through.new.units) (running clauses c.walk_through.new.units (between q))) (alternatives-push c.args.stack.now.items c.push.new.self.items c.in_ok-bound_to-in-Passed.field-0 _ c.in_ok-push-in-Passed.ensures.items c.in_ok-bound_to-in-Passed.ensures)

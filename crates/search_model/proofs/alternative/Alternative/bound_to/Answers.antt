@@ -1,4 +1,4 @@
-use Rattle.std.proofs.Common.{◌≡◌, sym}
+use Rattle.std.proofs.Common.{sym}
 use Rattle.search_model.proofs.StateFacts.{bound-is}
 use Rattle.search_model.proofs.alternative.Alternative.bound_to.Goals as goal
 
