@@ -14,7 +14,8 @@ use Rattle.clause_language.specs.LeastModel.{AreOpenClauses}
 use Rattle.search_model.specs.Run.{run, ended}
 use Rattle.search_model.specs.Search.{SearchCalculus, call, equate, emit, item, between, walking, Answer, rejected, with_goals, answer_of, answer}
 use Rattle.search_model.specs.Search.{by_clauses, taken, step_of, step, start, search}
-use Rattle.search_model.specs.Lawful.{IsMet, AreMet, IsGoal, AreGoals, IsLawful, IsComplete}
+use Rattle.search_model.specs.Lawful.{IsGoal, AreGoals, IsLawful, IsComplete}
+use Rattle.search_model.proofs.GoalsMet.{IsMet, AreMet}
 use Rattle.search_model.proofs.Fine.{IsFine, IsStateFine}
 use Rattle.search_model.proofs.RunFacts.{kept}
 use Rattle.search_model.proofs.Sound.{step_fine, start_fine}

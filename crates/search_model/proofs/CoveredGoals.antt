@@ -14,7 +14,8 @@ use Rattle.clause_language.specs.declared.clause.Clause.{Clause}
 use Rattle.clause_language.specs.LeastModel.{put_atom, IsInstance, AllHold, Holds, fits}
 use Rattle.clause_language.proofs.LeastModelFacts.{all_hold_first, all_hold_rest, holds_inversion, put_atoms-put_atoms}
 use Rattle.search_model.specs.Search.{SearchCalculus, call, equate, emit, item, GoalList, extended, with_goals, where_it_fits, by_clause, by_clauses}
-use Rattle.search_model.specs.Lawful.{IsMet, AreMet, IsGoal, AreGoals, both, IsComplete}
+use Rattle.search_model.specs.Lawful.{IsGoal, AreGoals, both, IsComplete}
+use Rattle.search_model.proofs.GoalsMet.{IsMet, AreMet, spelled_met}
 use Rattle.search_model.proofs.Covered.{GoalOf, AlternativeOf, IsCoveredBy, IsCovered, IsOneCovered, equalities_met, rest_covered}
 
 -- a calculus's goal lists
@@ -183,5 +184,5 @@ module _ (C : SearchCalculus) (clauses : List Clause) where
       item_covered x is_goal c =
           let completed : (steps : List C.StepOf) × C.Completed (C.put_item s x) steps = All-head (IsMet C clauses s) (item x) a.goals c.met in
           let given = complete.given a.levels x is_goal.0 is_goal.1 s c.closing completed.0 completed.1 in
-          let covered : IsCovered C clauses z (extended a given.0) = extended_covered (item x) given.0 s given.2 are open_asked c given.3 given.4 in
+          let covered : IsCovered C clauses z (extended a given.0) = extended_covered (item x) given.0 s given.2 are open_asked c given.3 (spelled_met C clauses (both (length a.levels) s given.2) given.0.goals completed.0 given.4) in
           one_covered z a others (C.expand x (length a.levels)) given.1.0 given.0 given.1.1 given.1.2 covered

@@ -23,3 +23,5 @@ pub mod ComparisonFacts
 pub mod WalkFacts
 pub mod LoopFacts
 pub mod SolveAnswer
+pub mod SameAtoms
+pub mod GoalsMet

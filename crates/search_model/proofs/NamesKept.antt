@@ -13,7 +13,7 @@ use Rattle.clause_language.specs.Naming.{AreTermsNamedBelow, IsAtomNamedBelow, A
 use Rattle.search_model.specs.Run.{ended}
 use Rattle.search_model.specs.Search.{Alternative, accepted}
 use Rattle.search_model.specs.Solve.{Nothing, solving, solved_atom, IsAccepted}
-use Rattle.search_model.specs.Renaming.{SameAtom, SameClause}
+use Rattle.search_model.proofs.SameAtoms.{SameAtom, SameClause}
 use Rattle.search_model.proofs.Renaming.{solved-same, endings_tell}
 
 -- one number, below n

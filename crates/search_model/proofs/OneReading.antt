@@ -10,7 +10,8 @@ use Rattle.clause_language.specs.Naming.{AreClausesNamedBelow}
 use Rattle.clause_language.specs.Program.{IsJoined}
 use Rattle.clause_language.proofs.FileNames.{definition-below}
 use Rattle.fpc_terms.proofs.SameTerms.{SameList}
-use Rattle.search_model.specs.Renaming.{SameClause, HaveOneName, IsAnswered, AnsweredOnce}
+use Rattle.search_model.specs.Renaming.{IsAnswered, AnsweredOnce}
+use Rattle.search_model.proofs.SameAtoms.{SameClause, HaveOneName}
 use Rattle.search_model.specs.Solve.{IsSolved}
 use Rattle.search_model.proofs.OneSolution.{solved-by_names}
 use Rattle.search_model.proofs.SameReadings.{definition-same, atom-named, atom-same, atom-as_many}

@@ -15,7 +15,8 @@ use Rattle.clause_language.specs.Program.{HaveWords}
 use Rattle.search_model.specs.Run.{Ending, ended, spent}
 use Rattle.search_model.specs.Search.{Answer, accepted, rejected}
 use Rattle.search_model.specs.Solve.{Nothing, solving, atom_text, IsAccepted, IsSolved}
-use Rattle.search_model.specs.Renaming.{SameAtom, SameClause, HaveOneName, SameSolved, SolvedOnce}
+use Rattle.search_model.specs.Renaming.{SameSolved}
+use Rattle.search_model.proofs.SameAtoms.{SameAtom, SameClause, HaveOneName, SolvedOnce}
 use Rattle.search_model.specs.declared.solve.Solved.{Solved}
 use Rattle.search_model.specs.declared.solve.Solved.TheVariants.{Accepted, Rejected, Spent, TooLong}
 use Rattle.search_model.proofs.NamesKept.{any_is, any_below}

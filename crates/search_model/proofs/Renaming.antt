@@ -11,7 +11,7 @@ use Rattle.clause_language.specs.Text.{args_of}
 use Rattle.search_model.specs.Run.{Ending, ended, spent}
 use Rattle.search_model.specs.Search.{Alternative, Answer, accepted, rejected}
 use Rattle.search_model.specs.Solve.{Nothing, solving, solved_atom, atom_text}
-use Rattle.search_model.specs.Renaming.{SameAtom, SameClause, HaveOneName}
+use Rattle.search_model.proofs.SameAtoms.{SameAtom, SameClause, HaveOneName}
 use Rattle.search_model.proofs.SameTermParts.{map_put-same, constant-same}
 use Rattle.search_model.proofs.SameSearches.{SameEnding, same_ended, same_spent, SameAlternative, same_alternative, SameAnswer, same_accepted, same_rejected, solving-same}
 

@@ -32,7 +32,7 @@ use Rattle.clause_language.specs.Text.{args_of}
 use Rattle.clause_language.specs.Written.{WrittenAtom, WrittenClause, WrittenItem, declaration, a_clause, WrittenDefinition, WrittenCertificate}
 use Rattle.clause_language.proofs.FileNames.{definition-below, certificate-below}
 use Rattle.clause_language.proofs.FileReading.{definition-read_once, certificate-read_once}
-use Rattle.search_model.specs.Renaming.{SameAtom, SameClause, HaveOneName}
+use Rattle.search_model.proofs.SameAtoms.{SameAtom, SameClause, HaveOneName}
 
 -- a text with a place in the table is the name there
 name_in-index_in : (names : List (List ℕ)) (x : List ℕ) → index_in names x < length names → name_in names (index_in names x) ≡ x

@@ -10,7 +10,7 @@ use Rattle.clause_language.specs.LeastModel.{put_atom, fits}
 use Rattle.search_model.specs.Run.{Ending, ended, spent, one_more, run}
 use Rattle.search_model.specs.Search.{Goal, call, equate, GoalList, Alternative, State, between, walking, Answer, accepted, rejected, equalities, extended, with_goals, answer_of, answer, put_goal, bound_to, by_clause, where_it_fits, by_clauses, equated, walked_on, behind_node, taken, step_of, step}
 use Rattle.search_model.specs.Solve.{Nothing, no_calculus, solving}
-use Rattle.search_model.specs.Renaming.{SameAtom, SameClause}
+use Rattle.search_model.proofs.SameAtoms.{SameAtom, SameClause}
 use Rattle.search_model.proofs.SameTermParts.{SameEquality, same_same, same_parts, same_older, same_walk, same_clash, map-same, put-same, map_put-same, at_one-same, later-same, lower_in-same, terms_in-same, joined-same, walked_node-same, equality-same}
 
 -- the two endings are of one kind, with related answers and the same units

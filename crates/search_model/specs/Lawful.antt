@@ -21,17 +21,6 @@ module _ (C : SearchCalculus) (clauses : List Clause) where
   Spelled s (emit e ∷ goals) steps = (rest : List C.StepOf) × (steps ≡ C.put_step s e ∷ rest) × Spelled s goals rest
   Spelled s (item x ∷ goals) steps = (first rest : List C.StepOf) × (steps ≡ first ++ rest) × C.Completed (C.put_item s x) first × Spelled s goals rest
 
-  -- the same of one goal, whatever steps it spells
-  abbrev pub IsMet : (ℕ → Term) → Goal C.ItemOf C.StepOf → Type 0
-  IsMet s (call a) = Holds clauses (put_atom s a)
-  IsMet s (equate t u) = put s t ≡ put s u
-  IsMet s (emit e) = Unit {0}
-  IsMet s (item x) = (steps : List C.StepOf) × C.Completed (C.put_item s x) steps
-
-  -- each goal is met
-  abbrev pub AreMet : (ℕ → Term) → List (Goal C.ItemOf C.StepOf) → Type 0
-  AreMet s goals = All (IsMet s) goals
-
 module _ (C : SearchCalculus) where
   -- the variables of a goal have these levels, and an item is in scope
   abbrev pub IsGoal : List Level → Goal C.ItemOf C.StepOf → Type 0
@@ -64,10 +53,10 @@ pub record IsLawful (C : SearchCalculus) (clauses : List Clause) : Type 0 where
 abbrev pub both : ℕ → (ℕ → Term) → (ℕ → Term) → ℕ → Term
 both k s r n = if nat_lt n k then s n else r (n - k)
 
--- A complete calculus: each completion of an item is given by one of its goal lists, under one closing of the new variables.
+-- A complete calculus: each completion of an item is given by one of its goal lists, under one closing of the new variables, with the same steps.
 pub record IsComplete (C : SearchCalculus) (clauses : List Clause) : Type 0 where
   pub item_agrees : (k : ℕ) (s r : ℕ → Term) → ((n : ℕ) → n < k → s n ≡ r n) → (x : C.ItemOf) → C.IsOpenItem k x → C.put_item s x ≡ C.put_item r x
   pub given : (levels : List Level) (x : C.ItemOf) → C.IsOpenItem (length levels) x → C.IsScopedItem levels x → (s : ℕ → Term) → IsClosing levels s
       → (steps : List C.StepOf) → C.Completed (C.put_item s x) steps
       → (e : GoalList C.ItemOf C.StepOf) × Contains (C.expand x (length levels)) e × (r : ℕ → Term)
-      × IsClosing (levels ++ e.new) (both (length levels) s r) × AreMet C clauses (both (length levels) s r) e.goals
+      × IsClosing (levels ++ e.new) (both (length levels) s r) × Spelled C clauses (both (length levels) s r) e.goals steps

@@ -85,7 +85,7 @@ IsRight clauses asked (Rejected units) = (s : ℕ → Term) → ((n : ℕ) → I
 IsRight clauses asked Spent = Unit {0}
 IsRight clauses asked TooLong = (a : Atom) × IsSound clauses asked a
 
--- An outcome with so many units is the same within each budget that has them, and within no smaller budget is there an outcome.
+-- An outcome with so many units is the same within each budget that has them, and each smaller budget is spent.
 abbrev pub OutcomeIsSettled : Type 0
 OutcomeIsSettled = (clauses : List Clause) (a : Atom) (variables budget units : ℕ) (answer : Answer Nothing Nothing) → solving clauses budget a variables ≡ ended answer units
     → ((more : ℕ) → units ≤ more → solving clauses more a variables ≡ ended answer units) × ((fewer : ℕ) → fewer < units → solving clauses fewer a variables ≡ spent)

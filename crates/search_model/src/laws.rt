@@ -1,5 +1,5 @@
 //! Laws over the definition of the search, each the contract of a function with nothing to run.
-ghost use Rattle.search_model.specs.Renaming.{AnsweredOnce, SolvedOnce};
+ghost use Rattle.search_model.specs.Renaming.{AnsweredOnce};
 ghost use Rattle.search_model.specs.Solve.{OutcomeIsSettled};
 
 /// A search that ends with some units ends so within each budget that has them, and is spent within each smaller one.
@@ -7,8 +7,7 @@ pub fn outcome_is_settled()
     ensures { OutcomeIsSettled }
 {}
 
-/// The answer to an atom hangs on what the program and the atom say, and on no numbering of their names.
+/// The answer to an atom over a definition hangs on what the two say, and on no numbering of their names.
 pub fn one_solution()
-    ensures solved { SolvedOnce }
-    ensures answered { AnsweredOnce }
+    ensures { AnsweredOnce }
 {}
