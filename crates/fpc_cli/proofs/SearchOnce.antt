@@ -2,7 +2,7 @@
 use Rattle.std.proofs.Common.{◌≡◌, ℕ, List, refl, ap, sym, ◌∙◌}
 use Rattle.fpc_base.specs.Lexeme.{items_of}
 use Rattle.std.specs.Prelude.{None}
-use Rattle.search_model.specs.Renaming.{AnsweredOnce, IsAnswered, SameSolved}
+use Rattle.search_model.specs.Renaming.{IsAnswered, SameSolved}
 use Rattle.search_model.specs.declared.solve.Solved.{Solved}
 use Rattle.search_model.specs.declared.solve.Solved.TheVariants.{Accepted, Rejected, Spent, TooLong}
 use Rattle.search_model.proofs.OneReading.{alone-joined, answered_once}
@@ -48,6 +48,6 @@ is-answered budget bytes word a h = record {
 pub searched-once : (budget : ℕ) (bytes word : List ℕ) (a b : Answer) → IsSearchAnswer budget bytes word a → IsSearchAnswer budget bytes word b → a ≡ b
 searched-once budget bytes word a b h k =
     h.told
-        ∙ answer-of-same h.names k.names h.end k.end
-            (answered_once None (items_of bytes) (items_of word) budget h.names k.names h.end k.end (is-answered budget bytes word a h) (is-answered budget bytes word b k))
-        ∙ sym k.told
+    ∙ answer-of-same h.names k.names h.end k.end
+    (answered_once None (items_of bytes) (items_of word) budget h.names k.names h.end k.end (is-answered budget bytes word a h) (is-answered budget bytes word b k))
+    ∙ sym k.told

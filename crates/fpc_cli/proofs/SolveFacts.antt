@@ -1,13 +1,11 @@
 -- What is read for a search stays read as the table of names grows.
-use Rattle.std.proofs.Common.{◌≡◌, ℕ, ◌<◌, ◌≤◌, List, [], ◌∷◌, length, Some, None, Result, Ok, Err, IfOk, get_or, arith, sym, ap, ◌∙◌, subst, inl, inr}
+use Rattle.std.proofs.Common.{◌≡◌, ℕ, ◌<◌, ◌≤◌, List, [], ◌∷◌, length, Some, None, Result, Ok, Err, IfOk, arith, sym, subst}
 use Rattle.std.specs.Prelude.{slice_get, codes}
-use Rattle.std.proofs.lemmas.Option.{slice_get_within, slice_get-get_or, slice_get_cases}
-use Rattle.std.proofs.lemmas.List.{get_or_past}
+use Rattle.std.proofs.lemmas.Option.{slice_get_within, slice_get-get_or}
 use Rattle.fpc_base.specs.declared.outside.OutOfMemory.{OutOfMemory}
 use Rattle.fpc_base.specs.Lexeme.{Item, items_of}
 use Rattle.fpc_terms.specs.Name.{AreDifferent, Grows}
 use Rattle.fpc_terms.specs.Printing.{HasNamesBelow, HaveNamesBelow}
-use Rattle.fpc_terms.specs.Text.{name_in}
 use Rattle.fpc_terms.specs.Term.{Term, Args, eigen, bound, variable, app, no_args, arg}
 use Rattle.polarised_formulas.proofs.Standing.{Agrees-grows}
 use Rattle.clause_language.specs.declared.atom.Atom as atom
