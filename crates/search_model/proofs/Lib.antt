@@ -22,3 +22,4 @@ pub mod CallFacts
 pub mod ComparisonFacts
 pub mod WalkFacts
 pub mod LoopFacts
+pub mod TestFacts
