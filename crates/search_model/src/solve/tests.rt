@@ -68,21 +68,28 @@ fn check_atom(rt: &impl Abort, found: &Atom, expected: &Atom) {
     }
 }
 
-/// Searches for an atom over a definition within a budget.
+/// Searches for an atom within a budget over a definition.
+fn solved(
+    alloc: Global,
+    names: &mut Names,
+    (definition, asked): (&[u8], &[u8]),
+    budget: u64,
+) -> Result<Solved, ParseRefusal> {
+    let (atom, variables) = read_atom(alloc, names, asked)?;
+    let program = program_of(alloc, names, definition)?;
+    Ok(plain_solve(alloc, names, &program, &atom, variables, budget)?)
+}
+
+/// A search within a budget ends as it is to.
 fn check_within(
     rt: &impl Abort,
     alloc: Global,
-    (definition, asked): (&[u8], &[u8]),
+    question: (&[u8], &[u8]),
     budget: u64,
     wanted: Wanted,
 ) -> Result<(), ParseRefusal> {
     let mut names = Names::new(alloc);
-    let (atom, variables) = read_atom(alloc, &mut names, asked)?;
-    let program = program_of(alloc, &mut names, definition)?;
-    match (
-        plain_solve(alloc, &names, &program, &atom, variables, budget)?,
-        wanted,
-    ) {
+    match (solved(alloc, &mut names, question, budget)?, wanted) {
         (Solved::Accepted { atom, units }, Accepts(text, taken)) => {
             let (expected, _) = read_atom(alloc, &mut names, text)?;
             check_atom(rt, &atom, &expected);
