@@ -63,7 +63,12 @@ use Wanted::{Accepts, Rejects, Spends};
 fn check_atom(rt: &impl Abort, found: &Atom, expected: &Atom) {
     assert_eq!(rt; found.name, expected.name);
     assert_eq!(rt; found.arguments.len(), expected.arguments.len());
-    for (one, other) in found.arguments.items().iter().zip(expected.arguments.items()) {
+    for (one, other) in found
+        .arguments
+        .items()
+        .iter()
+        .zip(expected.arguments.items())
+    {
         assert_eq!(rt; one.cells(), other.cells());
     }
 }
@@ -127,14 +132,34 @@ const APPEND: &[u8] = b"lkf append(nil,Y,Y). append(cons(X,R),Y,cons(X,S)) :- ap
 #[test]
 fn searches_end_with_their_units(rt: HostRuntime) -> Result<(), Fail> {
     let table: [(&[u8], &[u8], Wanted); 12] = [
-        (b"lkf col(red,a). col(green,b). col(blue,c).", b"col(blue,X)", Accepts(b"col(blue,c)", 6)),
+        (
+            b"lkf col(red,a). col(green,b). col(blue,c).",
+            b"col(blue,X)",
+            Accepts(b"col(blue,c)", 6),
+        ),
         (b"lkf same(Z,Z).", b"same(X,f(X))", Rejects(5)),
-        (b"lkf same(Z,Z).", b"same(X,f(a))", Accepts(b"same(f(a),f(a))", 5)),
-        (APPEND, b"append(X,Y,cons(a,nil))", Accepts(b"append(nil,cons(a,nil),cons(a,nil))", 8)),
-        (APPEND, b"append(nil,Y,Z)", Accepts(b"append(nil,any,any)", 4)),
+        (
+            b"lkf same(Z,Z).",
+            b"same(X,f(a))",
+            Accepts(b"same(f(a),f(a))", 5),
+        ),
+        (
+            APPEND,
+            b"append(X,Y,cons(a,nil))",
+            Accepts(b"append(nil,cons(a,nil),cons(a,nil))", 8),
+        ),
+        (
+            APPEND,
+            b"append(nil,Y,Z)",
+            Accepts(b"append(nil,any,any)", 4),
+        ),
         (b"lkf p(a). p(b).", b"p(c)", Rejects(3)),
         (b"lkf", b"q(X)", Rejects(1)),
-        (b"lkf p(X) :- q(X), r(X). q(a). q(b). r(b).", b"p(X)", Accepts(b"p(b)", 11)),
+        (
+            b"lkf p(X) :- q(X), r(X). q(a). q(b). r(b).",
+            b"p(X)",
+            Accepts(b"p(b)", 11),
+        ),
         (b"lkf p :- q. q.", b"p", Accepts(b"p", 2)),
         (b"lkf p(a,b). p(c). p.", b"p(X)", Accepts(b"p(c)", 3)),
         (b"lkf p(a,b). p(c). p.", b"p", Accepts(b"p", 1)),
