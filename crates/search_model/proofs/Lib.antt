@@ -25,3 +25,4 @@ pub mod LoopFacts
 pub mod SolveAnswer
 pub mod SameAtoms
 pub mod GoalsMet
+pub mod TestFacts
