@@ -10,9 +10,6 @@ ghost use Rattle.clause_language.specs.Meant.{declaration_meant};
 ghost use Rattle.clause_language.specs.DeclarationMachine.{DeclarationState, at_name, ended, limited};
 ghost use Rattle.clause_language.specs.HoldingDeclaration.{HoldsDeclaration, TakesDeclaration};
 
-#[cfg(test)]
-mod tests;
-
 use crate::declaration::DeclaredFormula;
 use fpc_base::outside::OutOfMemory;
 use fpc_base::refusal::{Code, TokenRefusal};

@@ -6,9 +6,6 @@ ghost use Rattle.polarised_formulas.specs.Text.{logic_text};
 ghost use Rattle.clause_language.specs.Text.{args_of, atom_before, more_atoms_before, body_before, clause_before, parameters_before, declaration_before, declared_before, clauses_before, file_before, definition_text, certificate_text};
 ghost use Rattle.clause_language.specs.Naming.{AreTermsNamedBelow, IsAtomNamedBelow, AreAtomsNamedBelow, IsClauseNamedBelow, AreClausesNamedBelow, IsDeclarationNamedBelow, AreDeclaredNamedBelow, IsDefinitionNamedBelow, IsCertificateNamedBelow};
 
-#[cfg(test)]
-mod tests;
-
 use crate::atom::Atom;
 use crate::certificate::Certificate;
 use crate::clause::Clause;

@@ -4,9 +4,6 @@ ghost use Rattle.fpc_terms.specs.Name.{Grows};
 ghost use Rattle.fpc_terms.specs.Adding.{AddsOnly};
 ghost use Rattle.clause_language.specs.Program.{IsJoined, HaveWords, IsWord};
 
-#[cfg(test)]
-mod tests;
-
 use crate::certificate::Certificate;
 use crate::clause_list::Clauses;
 use crate::declaration_list::Declared;

@@ -9,9 +9,6 @@ ghost use Rattle.clause_language.specs.Naming.{AreDeclaredNamedBelow, IsDefiniti
 ghost use Rattle.clause_language.specs.HoldingFile.{AreTaken};
 ghost use Rattle.clause_language.specs.ReadFile.{DefinitionIsRead, IsDefinitionRefusal, CertificateIsRead, IsCertificateRefusal, names_of, FileIsRead, IsFileRefusal};
 
-#[cfg(test)]
-mod tests;
-
 use crate::certificate::Certificate;
 use crate::declaration::DeclaredFormula;
 use crate::declaration_list::Declared;

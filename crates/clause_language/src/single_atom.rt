@@ -11,9 +11,6 @@ ghost use Rattle.clause_language.specs.Program.{HasFewArguments};
 ghost use Rattle.clause_language.specs.ReadAtom.{AtomIsRead, IsAtomRefusal};
 ghost use Rattle.polarised_formulas.specs.ReadProblem.{IsTooLarge};
 
-#[cfg(test)]
-mod tests;
-
 use crate::atom::Atom;
 use crate::clause_reader::finish_atom;
 use crate::file::unfinished;

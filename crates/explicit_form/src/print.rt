@@ -10,9 +10,6 @@ ghost use Rattle.explicit_form.specs.StepLimits.{most_bytes};
 ghost use Rattle.explicit_form.specs.Sizes.{StepNamedBelow, StepsNamedBelow};
 ghost use Rattle.explicit_form.specs.declared.print.PrintRefusal.TheVariants.{TooLong};
 
-#[cfg(test)]
-mod tests;
-
 use crate::size::certificate_size;
 use crate::word::{Word, step_word, word_bytes};
 use crate::words::header_line;

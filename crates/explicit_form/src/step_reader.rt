@@ -10,9 +10,6 @@ ghost use Rattle.explicit_form.specs.StepReading.{Line, State, heading, reading,
 ghost use Rattle.explicit_form.specs.StepLimits.{byte_fault, fault};
 ghost use Rattle.explicit_form.specs.Feeding.{IsAt, IsTaken, IsLine, IsLineWord, StandsBehind, HasRead, IsFed, IsFinished, is_whole, line_in, line_length, step_of, step_with};
 
-#[cfg(test)]
-mod tests;
-
 use crate::line::{LineReader, Taken, push};
 use crate::words::{header_line, other_header};
 use fpc_base::refusal::{Code, Refusal, TokenRefusal};

@@ -4,9 +4,6 @@ ghost use Rattle.std.specs.List.{AllByRecursion};
 ghost use Rattle.lkf_rules.specs.Sequent.{Levelled};
 ghost use Rattle.lkf_rules.specs.Play.{PlaysOne, start_of};
 
-#[cfg(test)]
-mod tests;
-
 use crate::shared::Shared;
 use fpc_base::outside::OutOfMemory;
 use lkf_rules::rules::outcome::StepRefusal;

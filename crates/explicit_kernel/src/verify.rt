@@ -6,9 +6,6 @@ ghost use Rattle.polarised_formulas.specs.declared.logic.Logic.TheVariants.{Lkf}
 ghost use Rattle.explicit_kernel.specs.Check.{IsAnswerTo};
 ghost use Rattle.explicit_kernel.specs.Verdict.{IsJudged, IsRight, HasReason};
 
-#[cfg(test)]
-mod tests;
-
 use crate::check::{Check, Stop};
 use fpc_base::outside::{Failed, Source};
 use fpc_base::refusal::Refusal;

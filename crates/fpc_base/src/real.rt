@@ -112,39 +112,3 @@ impl<W: Write> Sink for StdSink<W> {
         }
     }
 }
-
-#[cfg(test)]
-mod tests {
-    use super::*;
-    use crate::memory::tests::expect_reads;
-    use std::test::Fail;
-
-    #[test]
-    fn files_are_opened_and_read(rt: HostRuntime) -> Result<(), Fail> {
-        let path = "fpc_base_files_are_opened_and_read.txt";
-        fs::write(&rt, path, "hello")?;
-        let mut files = StdFiles::new(&rt);
-        expect_reads(&rt, &mut files, &[Some(b"")]);
-        assert_eq!(rt; files.open("fpc_base_no_such_file.txt"), Err(Failed));
-        assert_eq!(rt; files.open(path), Ok(()));
-        expect_reads(&rt, &mut files, &[Some(b"hell"), Some(b"o"), Some(b"")]);
-        fs::remove_file(&rt, path)?;
-        Ok(())
-    }
-
-    #[test]
-    fn readers_are_sources(rt: HostRuntime) {
-        let mut source = StdSource::new(b"hello".as_slice());
-        expect_reads(&rt, &mut source, &[Some(b"hell"), Some(b"o"), Some(b"")]);
-    }
-
-    #[test]
-    fn writers_are_sinks(rt: HostRuntime) -> Result<(), Fail> {
-        let mut bytes = [0u8; 3];
-        let mut sink = StdSink::new(bytes.as_mut_slice());
-        assert_eq!(rt; sink.write(b"abcd"), Ok(3));
-        assert_eq!(rt; sink.write(b"d"), Err(Failed), "a full slice takes nothing");
-        assert_eq!(rt; bytes, *b"abc");
-        Ok(())
-    }
-}

@@ -5,8 +5,6 @@ ghost use Rattle.fpc_base.specs.Tokens.{tokens_of, source_of, place_of, tokens_l
 mod bytes;
 mod front;
 pub mod lexeme;
-#[cfg(test)]
-mod tests;
 
 use crate::refusal::Refusal;
 use front::{Front, front_at};

@@ -4,9 +4,6 @@ ghost use Rattle.std.specs.List.{sum_by};
 ghost use Rattle.fpc_terms.specs.Term.{arguments_in, head_of};
 ghost use Rattle.fpc_terms.specs.Cells.{arity, front_length};
 
-#[cfg(test)]
-mod tests;
-
 use crate::cell::Cell;
 use crate::list::Terms;
 use crate::name::NameId;

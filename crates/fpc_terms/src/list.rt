@@ -65,24 +65,3 @@ impl Terms {
         self.items.as_slice()
     }
 }
-
-#[cfg(test)]
-mod tests {
-    use super::*;
-    use crate::cell::Cell;
-    use crate::term::equal;
-    use std::test::Fail;
-
-    #[test]
-    fn terms_keep_their_places(rt: HostRuntime) -> Result<(), Fail> {
-        let mut terms = Terms::new(rt.alloc());
-        terms.push(TermBuf::from_cells(rt.alloc(), &[Cell::Eigen(3)])?)?;
-        terms.push(TermBuf::from_cells(rt.alloc(), &[Cell::Var(3)])?)?;
-        assert_eq!(rt; terms.len(), 2);
-        assert_eq!(rt; terms.items().len(), 2);
-        assert_eq!(rt; terms.get(1).cells(), [Cell::Var(3)].as_slice());
-        assert!(rt; equal(terms.get(0), terms.get(0)));
-        assert!(rt; !equal(terms.get(0), terms.get(1)));
-        Ok(())
-    }
-}

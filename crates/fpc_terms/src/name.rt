@@ -80,27 +80,3 @@ fn is_name_byte(b: u8) -> bool
 {
     is_small_letter(b) || b >= b'A' && b <= b'Z' || b >= b'0' && b <= b'9' || b == b'_'
 }
-
-#[cfg(test)]
-mod tests {
-    use super::*;
-
-    #[test]
-    fn keywords_are_no_names(rt: HostRuntime) {
-        let table: [(&[u8], bool); 10] = [
-            (b"append", true),
-            (b"alls", true),
-            (b"", false),
-            (b"Nil", false),
-            (b"all", false),
-            (b"some", false),
-            (b"tt", false),
-            (b"ff", false),
-            (b"formula", false),
-            (b"certificate", false),
-        ];
-        for (text, expected) in table {
-            assert_eq!(rt; is_name(text), expected);
-        }
-    }
-}

@@ -82,29 +82,3 @@ impl Names {
         Ok(NameId::new(number))
     }
 }
-
-#[cfg(test)]
-mod tests {
-    use super::*;
-    use crate::name::is_name;
-    use std::test::Fail;
-
-    #[test]
-    fn equal_texts_have_equal_ids(rt: HostRuntime) -> Result<(), Fail> {
-        assert!(rt; is_name(b"append"));
-        assert!(rt; !is_name(b"Nil"));
-        let mut names = Names::new(rt.alloc());
-        assert!(rt; names.is_empty());
-        let append = names.intern(b"append")?;
-        let nil = names.intern(b"nil")?;
-        let again = names.intern(b"append")?;
-        assert_eq!(rt; append, again);
-        assert_ne!(rt; append, nil);
-        assert_eq!(rt; names.intern(b"nil")?, nil);
-        assert_eq!(rt; names.len(), 2);
-        names.distinct();
-        assert_eq!(rt; names.text(append), b"append".as_slice());
-        assert_eq!(rt; names.text(nil), b"nil".as_slice());
-        Ok(())
-    }
-}

@@ -5,9 +5,6 @@ ghost use Rattle.std.specs.List.{sum_by};
 ghost use Rattle.fpc_terms.specs.Text.{term_text, name_in, plain_leaves, room_left};
 ghost use Rattle.fpc_terms.specs.Printing.{HasNamesBelow, StartsWith, IsNamedBelow, AreNamedBelow, head_text, arguments_of, end_text, end_counts, behind_text, behind_counts, cells_text, signs_around, cell_length};
 
-#[cfg(test)]
-mod tests;
-
 use crate::cell::Cell;
 use crate::name::NameId;
 use crate::names::Names;

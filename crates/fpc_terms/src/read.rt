@@ -11,9 +11,6 @@ ghost use Rattle.fpc_terms.specs.Machine.{TermState, limited, is_too_many, is_op
 ghost use Rattle.fpc_terms.specs.Holding.{IsNamed, is_variable, Holds};
 ghost use Rattle.fpc_terms.specs.ReadTerm.{any_variable, TermIsRead, IsTermRefusal, HoldsFor, TakesFor, Leads};
 
-#[cfg(test)]
-mod tests;
-
 use crate::names::Names;
 use crate::reader::TermReader;
 use crate::term::TermBuf;

@@ -5,9 +5,6 @@ ghost use Rattle.fpc_terms.specs.Term.{put};
 ghost use Rattle.fpc_terms.specs.Open.{at_one, later, constant};
 ghost use Rattle.fpc_terms.specs.Substitution.{cell_put};
 
-#[cfg(test)]
-mod tests;
-
 use crate::cell::Cell;
 use crate::list::Terms;
 use crate::name::NameId;

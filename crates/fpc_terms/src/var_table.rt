@@ -69,26 +69,3 @@ impl VarTable {
         self.texts.distinct();
     }
 }
-
-#[cfg(test)]
-mod tests {
-    use super::*;
-    use std::test::Fail;
-
-    #[test]
-    fn names_are_numbered_as_they_first_come(rt: HostRuntime) -> Result<(), Fail> {
-        let mut variables = VarTable::new(rt.alloc());
-        assert_eq!(rt; variables.count(), 0);
-        assert_eq!(rt; variables.find(b"X"), None);
-        for _ in 0..2 {
-            assert_eq!(rt; variables.number(b"X")?, 0);
-            assert_eq!(rt; variables.number(b"Tail")?, 1);
-            assert_eq!(rt; variables.number(b"Xs")?, 2);
-        }
-        variables.distinct();
-        assert_eq!(rt; variables.count(), 3);
-        assert_eq!(rt; variables.find(b"Tail"), Some(1));
-        assert_eq!(rt; variables.find(b"T"), None);
-        Ok(())
-    }
-}

@@ -13,8 +13,6 @@ mod negative;
 pub mod outcome;
 mod positive;
 pub mod storable;
-#[cfg(test)]
-mod tests;
 
 use crate::sequent::Sequent;
 use choice::{cut, decide};

@@ -5,8 +5,6 @@ ghost use Rattle.polarised_formulas.specs.Text.{plain_text, named_style, formula
 ghost use Rattle.polarised_formulas.specs.Printing.{AllNamesBelow};
 
 mod progress;
-#[cfg(test)]
-mod tests;
 mod waiting;
 pub mod words;
 mod writer;

@@ -11,9 +11,6 @@ ghost use Rattle.polarised_formulas.specs.Machine.{ProblemState, start, limited_
 ghost use Rattle.polarised_formulas.specs.Printing.{AllNamesBelow};
 ghost use Rattle.polarised_formulas.specs.ReadProblem.{IsTooLarge, ProblemIsRead, IsProblemRefusal, HoldsProblem, TakesProblem, is_dot, GoalOf, IsUnfinished};
 
-#[cfg(test)]
-mod tests;
-
 use crate::formula::Formula;
 use crate::logic::Logic;
 use crate::read::take_token;

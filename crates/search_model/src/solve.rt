@@ -10,9 +10,6 @@ ghost use Rattle.search_model.specs.Search.{between, equated, taken, walking};
 ghost use Rattle.search_model.specs.Solve.{IsRight, IsSolved, IsWithin, no_calculus, solving};
 ghost use Rattle.search_model.specs.States.{alternative_of, alternatives_of, goal_of, on_from, IsFound, running};
 
-#[cfg(test)]
-mod tests;
-
 use crate::alternative::{Alternative, Goal, copied_atom};
 use crate::calls::{push_all_answered, push_variables};
 use crate::comparison::{Comparison, compare};

@@ -9,9 +9,6 @@ ghost use Rattle.polarised_formulas.specs.PlainLimits.{outcome_at_end};
 ghost use Rattle.polarised_formulas.specs.PlainStanding.{Stands};
 ghost use Rattle.polarised_formulas.specs.PlainTaking.{IsTaken, IsEnded, IsAnswer, IsExplained, IsOfFormula};
 
-#[cfg(test)]
-mod tests;
-
 use crate::formula::Formula;
 use crate::logic::Logic;
 use crate::plain::reader::{PlainReader, Progress};

@@ -14,8 +14,6 @@ ghost use Rattle.polarised_formulas.specs.PlainLimits.{nesting};
 ghost use Rattle.polarised_formulas.specs.PlainStanding.{Stands, IsOutside, IsLiteral, IsNext, IsOn, IsNamed, begun, BeginsWord, word_meant, operator_of, built_holes, told_of, next_unnamed};
 
 mod terms;
-#[cfg(test)]
-mod tests;
 mod words;
 
 use crate::builder::FormulaBuilder;
