@@ -1,0 +1,5 @@
+solve
+--budget
+7
+append.definition
+append(X,Y,cons(a,nil))

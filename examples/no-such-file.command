@@ -1,0 +1,3 @@
+verify
+truth.problem
+no-such-file.lkf

@@ -1,0 +1,2 @@
+verify
+truth.problem

@@ -1,0 +1,3 @@
+solve
+doubled.definition
+doubled(s(s(s(s(s(s(s(s(s(s(s(s(s(s(s(s(s(s(z)))))))))))))))))),V)
