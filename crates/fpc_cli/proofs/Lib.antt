@@ -1,12 +1,8 @@
-pub mod PrintedForms
-pub mod Contents
-pub mod FormatAnswer
-pub mod FormatDue
-pub mod WordCounts
 pub mod Budgets
-pub mod SolveFacts
-pub mod SolveAnswer
-pub mod SolveDue
-pub mod RunFacts
+pub mod Contents
+pub mod GrammarLaws
+pub mod InputLaws
 pub mod OneAnswer
+pub mod PrintedForms
 pub mod SearchOnce
+pub mod WordCounts

@@ -1,14 +1,17 @@
 -- The answer of a search is one.
-use Rattle.std.proofs.Common.{◌≡◌, ℕ, List, refl, ap, sym, ◌∙◌}
+use Rattle.std.proofs.Common.{◌≡◌, ℕ, List, [], ◌++◌, refl, ap, sym, ◌∙◌, append-nil}
 use Rattle.fpc_base.specs.Lexeme.{items_of}
 use Rattle.std.specs.Prelude.{None}
-use Rattle.search_model.specs.Renaming.{IsAnswered, SameSolved}
+use Rattle.search_model.specs.Renaming.{AnsweredOnce, IsAnswered, SameSolved}
 use Rattle.search_model.specs.declared.solve.Solved.{Solved}
 use Rattle.search_model.specs.declared.solve.Solved.TheVariants.{Accepted, Rejected, Spent, TooLong}
-use Rattle.search_model.proofs.OneReading.{alone-joined, answered_once}
+use Rattle.clause_language.specs.declared.certificate.Certificate.{Certificate}
+use Rattle.clause_language.specs.declared.definition.Definition.{Definition}
+use Rattle.clause_language.specs.declared.program.Program.{Program}
+use Rattle.clause_language.specs.Program.{IsJoined}
 use Rattle.fpc_cli.specs.declared.answer.Answer.{Answer}
 use Rattle.fpc_cli.specs.declared.answer.Answer.TheVariants.{Holds}
-use Rattle.fpc_cli.specs.Solve.{IsSearchAnswer, answer_of}
+use Rattle.fpc_cli.specs.commands.Solve.{IsSearchAnswer, answer_of}
 
 -- answers to an atom that are the same are one answer of the program
 answer-of-same : (names others : List (List ℕ)) (r s : Solved) → SameSolved names others r s → answer_of names r ≡ answer_of others s
@@ -29,6 +32,10 @@ answer-of-same names others TooLong (Rejected v) h = absurd h
 answer-of-same names others TooLong Spent h = absurd h
 answer-of-same names others TooLong TooLong h = refl
 
+-- what is joined with a certificate without clauses keeps its own
+alone-joined : (d : Definition) (c : Certificate) (p : Program) → IsJoined d c p → c.clauses ≡ [] → p.clauses ≡ d.clauses
+alone-joined d c p j e = j.clauses ∙ ap (λ cs. d.clauses ++ cs) e ∙ append-nil d.clauses
+
 -- a definition and an atom were read, and the search was answered
 is-answered : (budget : ℕ) (bytes word : List ℕ) (a : Answer) (h : IsSearchAnswer budget bytes word a) → IsAnswered None (items_of bytes) (items_of word) budget h.names h.end
 is-answered budget bytes word a h = record {
@@ -45,9 +52,9 @@ is-answered budget bytes word a h = record {
 }
 
 -- the bytes and the word have one answer within a budget
-pub searched-once : (budget : ℕ) (bytes word : List ℕ) (a b : Answer) → IsSearchAnswer budget bytes word a → IsSearchAnswer budget bytes word b → a ≡ b
-searched-once budget bytes word a b h k =
+pub searched-once : AnsweredOnce → (budget : ℕ) (bytes word : List ℕ) (a b : Answer) → IsSearchAnswer budget bytes word a → IsSearchAnswer budget bytes word b → a ≡ b
+searched-once law budget bytes word a b h k =
     h.told
     ∙ answer-of-same h.names k.names h.end k.end
-    (answered_once None (items_of bytes) (items_of word) budget h.names k.names h.end k.end (is-answered budget bytes word a h) (is-answered budget bytes word b k))
+    (law None (items_of bytes) (items_of word) budget h.names k.names h.end k.end (is-answered budget bytes word a h) (is-answered budget bytes word b k))
     ∙ sym k.told

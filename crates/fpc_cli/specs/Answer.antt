@@ -33,13 +33,15 @@ status_of OutOfMemory = 8
 -- a refusal as its number, its name and its place in the file, as `2 Unexpected at 34`
 abbrev pub refusal_text : Refusal → List ℕ
 refusal_text refusal =
-    decimal (code_number refusal.code) ++ codes " " ++ code_name refusal.code ++ codes " at " ++ decimal refusal.at
+    decimal (code_number refusal.code) ++ codes " " ++ code_name refusal.code ++ codes " at "
+    ++ decimal refusal.at
 
 -- the words of an answer, as a line
 abbrev pub line_of : List ℕ → List ℕ
 line_of words = words ++ 10 ∷ []
 
--- the text of an answer: a file's printed form as it is, else a line, behind which an atom that holds stands on a line of its own
+-- the text of an answer: a file's printed form as it is, else a line, after which an atom that
+-- holds stands on a line of its own
 abbrev pub answer_text : Answer → List ℕ
 answer_text (Accepted steps) = line_of (codes "accepted, " ++ decimal steps ++ codes " steps")
 answer_text (Rejected at) = line_of (codes "rejected at step " ++ decimal at)
@@ -48,7 +50,8 @@ answer_text (Holds atom) = line_of (codes "accepted") ++ line_of atom
 answer_text NotProved = line_of (codes "rejected")
 answer_text BudgetSpent = line_of (codes "budget spent")
 answer_text TooLong = line_of (codes "too long")
-answer_text (Refused role refusal) = line_of (codes "refused " ++ role_name role ++ codes " " ++ refusal_text refusal)
+answer_text (Refused role refusal) =
+    line_of (codes "refused " ++ role_name role ++ codes " " ++ refusal_text refusal)
 answer_text Usage = line_of (codes "usage")
 answer_text ReadFault = line_of (codes "read fault")
 answer_text OutOfMemory = line_of (codes "want of memory")

@@ -9,8 +9,9 @@ use Rattle.fpc_cli.specs.declared.command.Command.TheVariants.{Verify, Format, S
 use Rattle.fpc_cli.specs.declared.command.Form.{Form}
 use Rattle.fpc_cli.specs.declared.command.Form.TheVariants.{Problem, Definition, Certificate}
 
--- what the program is asked to do: to verify the explicit certificate in one file against the problem in another, to print the printed form
--- of a file that is read as a problem, a definition or a certificate, to search for an instance of an atom that holds by the definition in a file,
+-- what the program is asked to do: to verify the explicit certificate in one file against the
+-- problem in another, to print the printed form of a file that is read as a problem, a definition
+-- or a certificate, to search for an instance of an atom that holds by the definition in a file,
 -- within a budget of units, or nothing that it knows
 pub data Asked : Type 0 where
   verify : (problem explicit : List ℕ) → Asked
@@ -31,16 +32,17 @@ form_said word =
     else (if bytes_eq word (codes "certificate") then Some Certificate
     else None))
 
--- behind `verify`: a problem's file and an explicit certificate's file
+-- after `verify`: a problem's file and an explicit certificate's file
 abbrev pub verify_by : List ℕ → List ℕ → Asked
-verify_by problem explicit = if is_file_word problem && is_file_word explicit then verify problem explicit else usage
+verify_by problem explicit =
+    if is_file_word problem && is_file_word explicit then verify problem explicit else usage
 
 -- a file to be printed, where a form was said
 abbrev pub format_as : Option Form → List ℕ → Asked
 format_as None file = usage
 format_as (Some form) file = format form file
 
--- behind `format`: a form and a file
+-- after `format`: a form and a file
 abbrev pub format_by : List ℕ → List ℕ → Asked
 format_by form file = if is_file_word file then format_as (form_said form) file else usage
 
@@ -54,7 +56,10 @@ usual_budget = 10000000
 
 -- a number with one more digit, where the byte is a digit and the number is at most the most units
 abbrev pub with_digit : ℕ → ℕ → Option ℕ
-with_digit n b = if is_digit b && nat_le (10 * n + (b - 48)) most_budget then Some (10 * n + (b - 48)) else None
+with_digit n b =
+    if is_digit b && nat_le (10 * n + (b - 48)) most_budget
+    then Some (10 * n + (b - 48))
+    else None
 
 -- a number with more digits
 abbrev pub with_digits : ℕ → List ℕ → Option ℕ
@@ -68,22 +73,26 @@ budget_said (b ∷ bs) = if nat_eq b 48 then None else with_digits 0 (b ∷ bs)
 
 -- a word says a budget exactly where it has the decimal digits of a number from 1 to the most units
 abbrev pub BudgetIsDecimal : Type 0
-BudgetIsDecimal = (word : List ℕ) (n : ℕ) → budget_said word ≡ Some n ↔ ((word ≡ decimal n) × (1 ≤ n) × (n ≤ most_budget))
+BudgetIsDecimal =
+    (word : List ℕ) (n : ℕ)
+    → budget_said word ≡ Some n ↔ ((word ≡ decimal n) × (1 ≤ n) × (n ≤ most_budget))
 
--- a word that can name a definition's file: it can name a file, and does not begin as the name of a definition that is built in
+-- a word that can name a definition's file: it can name a file, and does not begin as the name of a
+-- definition that is built in
 abbrev pub is_definition_word : List ℕ → Bool
 is_definition_word word = is_file_word word && not (starts_with nat_eq word (codes "builtin:"))
 
--- behind `solve` and its budget: a definition's file, and any word as an atom
+-- after `solve` and its budget: a definition's file, and any word as an atom
 abbrev pub solve_by : ℕ → List ℕ → List ℕ → Asked
-solve_by budget definition atom = if is_definition_word definition then solve budget definition atom else usage
+solve_by budget definition atom =
+    if is_definition_word definition then solve budget definition atom else usage
 
 -- a search, where a budget was said
 abbrev pub solve_within : Option ℕ → List ℕ → List ℕ → Asked
 solve_within None definition atom = usage
 solve_within (Some budget) definition atom = solve_by budget definition atom
 
--- a command and two words behind it
+-- a command and two words after it
 abbrev pub short_asked : List ℕ → List ℕ → List ℕ → Asked
 short_asked name second third =
     if bytes_eq name (codes "verify") then verify_by second third
@@ -91,15 +100,19 @@ short_asked name second third =
     else (if bytes_eq name (codes "solve") then solve_by usual_budget second third
     else usage))
 
--- `solve` with `--budget`, a budget and two words behind it
+-- `solve` with `--budget`, a budget and two words after it
 abbrev pub long_asked : List ℕ → List ℕ → List ℕ → List ℕ → List ℕ → Asked
 long_asked name flag budget definition atom =
-    if bytes_eq name (codes "solve") && bytes_eq flag (codes "--budget") then solve_within (budget_said budget) definition atom else usage
+    if bytes_eq name (codes "solve") && bytes_eq flag (codes "--budget")
+    then solve_within (budget_said budget) definition atom
+    else usage
 
--- the words are exactly a command and two more that it may have, or `solve` and four; any others are an error of usage
+-- the words are exactly a command and two more that it may have, or `solve` and four; any others
+-- are an error of usage
 abbrev pub asked_by : List (List ℕ) → Asked
 asked_by (name ∷ second ∷ third ∷ []) = short_asked name second third
-asked_by (name ∷ flag ∷ budget ∷ definition ∷ atom ∷ []) = long_asked name flag budget definition atom
+asked_by (name ∷ flag ∷ budget ∷ definition ∷ atom ∷ []) =
+    long_asked name flag budget definition atom
 asked_by _ = usage
 
 -- what a command stands for

@@ -1,10 +1,8 @@
 pub mod Command
 pub mod Answer
 pub mod Held
-pub mod Format
-pub mod Solve
+pub mod Inputs
+pub mod Grammars
+pub mod commands
 pub mod Run
-pub mod OneAnswer
-pub mod Due
-pub mod DueFormat
-pub mod DueSolve
+pub mod Laws

@@ -39,7 +39,8 @@ pub enum Command<'a> {
         form: Form,
         file: &'a str,
     },
-    /// Search for an instance of an atom that holds by the definition in a file, within a budget of units.
+    /// Search for an instance of an atom that holds by the definition in a file, within a budget
+    /// of units.
     Solve {
         budget: u64,
         definition: &'a str,
@@ -72,7 +73,7 @@ pub fn command_of(words: &Words) -> Command<'_>
     }
 }
 
-/// The command of a name and two words behind it.
+/// The command of a name and two words after it.
 fn short_command<'a>(name: &str, second: &'a str, third: &'a str) -> Command<'a>
     ensures { asked_of result ≡ short_asked name.now second.now third.now }
 {
@@ -87,7 +88,7 @@ fn short_command<'a>(name: &str, second: &'a str, third: &'a str) -> Command<'a>
     }
 }
 
-/// The command of a name, a flag with its budget, and two words behind it.
+/// The command of a name, a flag with its budget, and two words after it.
 fn long_command<'a>(
     name: &str,
     flag: &str,
@@ -106,7 +107,7 @@ fn long_command<'a>(
     }
 }
 
-/// The command of the words behind `verify`.
+/// The command of the words after `verify`.
 fn verify_of<'a>(problem: &'a str, explicit: &'a str) -> Command<'a>
     ensures { asked_of result ≡ verify_by problem.now explicit.now }
 {
@@ -117,7 +118,7 @@ fn verify_of<'a>(problem: &'a str, explicit: &'a str) -> Command<'a>
     }
 }
 
-/// The command of the words behind `format`.
+/// The command of the words after `format`.
 fn format_of<'a>(form: &str, file: &'a str) -> Command<'a>
     ensures { asked_of result ≡ format_by form.now file.now }
 {
@@ -145,7 +146,7 @@ fn form_said(word: &str) -> Option<Form>
     }
 }
 
-/// The command of the words behind `solve` and its budget.
+/// The command of the words after `solve` and its budget.
 fn solve_of<'a>(budget: u64, definition: &'a str, atom: &'a str) -> Command<'a>
     ensures { asked_of result ≡ solve_by budget definition.now atom.now }
 {
@@ -185,7 +186,8 @@ fn number_of(digits: &[u8]) -> Option<u64>
     Some(number)
 }
 
-/// A number with one more digit, where the byte is a digit and the number is at most the most units.
+/// A number with one more digit, where the byte is a digit and the number is at most the most
+/// units.
 fn with_digit(number: u64, byte: u8) -> Option<u64>
     ensures { result ≡ with_digit number byte }
 {
@@ -214,171 +216,5 @@ fn is_file_word(word: &str) -> bool
     match word.as_bytes() {
         [] => false,
         [first, ..] => *first != b'-',
-    }
-}
-
-#[cfg(test)]
-mod tests {
-    use super::*;
-    use fpc_base::OutOfMemory;
-    use std::alloc::Global;
-    use std::process::Abort;
-    use std::test::Fail;
-
-    fn words_of(alloc: Global, texts: &[&str]) -> Result<Words, OutOfMemory> {
-        let mut words = Words::new(alloc);
-        for text in texts {
-            words.push(String::from_str(alloc, text)?)?;
-        }
-        Ok(words)
-    }
-
-    const fn verify<'a>(problem: &'a str, explicit: &'a str) -> Command<'a> {
-        Command::Verify { problem, explicit }
-    }
-
-    const fn format<'a>(form: Form, file: &'a str) -> Command<'a> {
-        Command::Format { form, file }
-    }
-
-    const fn solve<'a>(budget: u64, definition: &'a str, atom: &'a str) -> Command<'a> {
-        Command::Solve {
-            budget,
-            definition,
-            atom,
-        }
-    }
-
-    #[test]
-    fn only_these_words_are_commands(rt: HostRuntime) -> Result<(), Fail> {
-        let usage = Command::Usage;
-        let table: [(&[&str], Command); 23] = [
-            (&["verify", "a", "b"], verify("a", "b")),
-            (&["verify", "builtin:x", "e"], verify("builtin:x", "e")),
-            (&["format", "problem", "f"], format(Form::Problem, "f")),
-            (
-                &["format", "definition", "builtin:x"],
-                format(Form::Definition, "builtin:x"),
-            ),
-            (
-                &["format", "certificate", "f-"],
-                format(Form::Certificate, "f-"),
-            ),
-            (&[], usage),
-            (&["verify", "a"], usage),
-            (&["verify", "a", "b", "c"], usage),
-            (&["verify", "-a", "b"], usage),
-            (&["verify", "a", "-b"], usage),
-            (&["verify", "a", ""], usage),
-            (&["check", "a", "b"], usage),
-            (&["format"], usage),
-            (&["format", "problem"], usage),
-            (&["format", "f", "problem"], usage),
-            (&["format", "problem", "-f"], usage),
-            (&["format", "problem", ""], usage),
-            (&["format", "problem", "f", "g"], usage),
-            (&["format", "explicit", "f"], usage),
-            (&["format", "atom", "f"], usage),
-            (&["format", "native", "f"], usage),
-            (&["format", "Problem", "f"], usage),
-            (&["formats", "problem", "f"], usage),
-        ];
-        for (texts, command) in table {
-            expect_command(&rt, rt.alloc(), texts, command)?;
-        }
-        Ok(())
-    }
-
-    fn expect_command(
-        rt: &impl Abort,
-        alloc: Global,
-        texts: &[&str],
-        command: Command,
-    ) -> Result<(), Fail> {
-        let words = words_of(alloc, texts)?;
-        assert_eq!(rt; command_of(&words), command, "of {texts:?}");
-        Ok(())
-    }
-
-    #[test]
-    fn any_word_may_be_an_atom(rt: HostRuntime) -> Result<(), Fail> {
-        let table: [(&[&str], Command); 4] = [
-            (&["solve", "d", "p(X)"], solve(10_000_000, "d", "p(X)")),
-            (&["solve", "d", ""], solve(10_000_000, "d", "")),
-            (&["solve", "d", "-p"], solve(10_000_000, "d", "-p")),
-            (
-                &["solve", "builtin", "--budget"],
-                solve(10_000_000, "builtin", "--budget"),
-            ),
-        ];
-        for (texts, command) in table {
-            expect_command(&rt, rt.alloc(), texts, command)?;
-        }
-        Ok(())
-    }
-
-    #[test]
-    fn other_words_of_a_search_are_usage(rt: HostRuntime) -> Result<(), Fail> {
-        let table: [&[&str]; 15] = [
-            &["solve"],
-            &["solve", "d"],
-            &["solve", "", "p"],
-            &["solve", "-d", "p"],
-            &["solve", "builtin:cnf", "p"],
-            &["solve", "builtin:", "p"],
-            &["solve", "--budget", "1"],
-            &["solve", "--budget", "1", "d"],
-            &["solve", "--budget", "1", "-d", "p"],
-            &["solve", "--budget", "1", "builtin:cnf", "p"],
-            &["solve", "d", "p", "--budget", "1"],
-            &["solve", "d", "--budget", "1", "p"],
-            &["solve", "--limit", "1", "d", "p"],
-            &["solve", "--budget", "1", "--budget", "1", "d", "p"],
-            &["format", "--budget", "1", "problem", "f"],
-        ];
-        for texts in table {
-            expect_command(&rt, rt.alloc(), texts, Command::Usage)?;
-        }
-        Ok(())
-    }
-
-    #[test]
-    fn a_budget_is_a_number_of_one_or_more(rt: HostRuntime) -> Result<(), Fail> {
-        let table = [
-            ("1", Some(1)),
-            ("9", Some(9)),
-            ("10000001", Some(10_000_001)),
-            ("4611686018427387903", Some(4_611_686_018_427_387_903)),
-            ("4611686018427387904", Some(4_611_686_018_427_387_904)),
-            ("4611686018427387905", None),
-            ("18446744073709551617", None),
-            ("0", None),
-            ("01", None),
-            ("", None),
-            ("-1", None),
-            ("+1", None),
-            ("1 ", None),
-            ("1_0", None),
-            ("1:", None),
-            ("1/", None),
-        ];
-        for (budget, number) in table {
-            expect_budget(&rt, rt.alloc(), budget, number)?;
-        }
-        Ok(())
-    }
-
-    fn expect_budget(
-        rt: &impl Abort,
-        alloc: Global,
-        budget: &str,
-        number: Option<u64>,
-    ) -> Result<(), Fail> {
-        let texts = ["solve", "--budget", budget, "d", "p"];
-        let command = match number {
-            Some(number) => solve(number, "d", "p"),
-            None => Command::Usage,
-        };
-        expect_command(rt, alloc, &texts, command)
     }
 }

@@ -3,10 +3,9 @@
 
 mod answer;
 mod command;
-mod format;
+mod commands;
 mod laws;
 mod run;
-mod solve;
 mod source;
 mod status;
 mod text;
@@ -20,8 +19,8 @@ use std::rt::Env;
 use std::{env, io};
 use words::Words;
 
-/// The program's arguments without its name, or the status where they can't be had: 5 where the system gives none as
-/// text, 8 where there is no memory for them.
+/// The program's arguments without its name, or the status where they can't be had: 5 where the
+/// system gives none as text, 8 where there is no memory for them.
 fn words_of<R: Env + AllocGlobal>(rt: &R, alloc: Global) -> Result<Words, u8> {
     let arguments = match env::args(rt) {
         Ok(arguments) => arguments,

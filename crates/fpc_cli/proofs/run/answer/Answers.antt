@@ -1,17 +1,37 @@
 use Rattle.std.proofs.Common.{subst}
+use Rattle.fpc_cli.specs.Inputs.{outside}
 use Rattle.fpc_cli.specs.Run.{IsCaused}
 use Rattle.fpc_cli.proofs.run.answer.Goals as goal
 
 pub returns-in-Verify-clause-caused : goal.returns-in-Verify-clause-caused
 returns-in-Verify-clause-caused g c =
+    let before = c.args.files.now in
+    let after = c.verified.new.files in
     subst
-    (λ asked. IsCaused asked (g.F.Source.content c.args.files.now) (g.F.Source.opened c.args.files.now) (g.F.Source.opened c.verified.new.files) (g.F.Source.left c.verified.new.files)
-    (g.F.Source.faults c.args.files.now) (g.F.Source.faults c.verified.new.files) c.verified.result)
+    (λ asked. IsCaused asked (g.F.Source.content before)
+    (outside (g.F.Source.opened before) (g.F.Source.left before) (g.F.Source.faults before))
+    (outside (g.F.Source.opened after) (g.F.Source.left after) (g.F.Source.faults after))
+    c.verified.result)
     c.in-Verify.ensures c.verified.ensures.caused
 
 pub returns-in-Format-clause-caused : goal.returns-in-Format-clause-caused
 returns-in-Format-clause-caused g c =
+    let before = c.args.files.now in
+    let after = c.formatted.new.files in
     subst
-    (λ asked. IsCaused asked (g.F.Source.content c.args.files.now) (g.F.Source.opened c.args.files.now) (g.F.Source.opened c.formatted.new.files) (g.F.Source.left c.formatted.new.files)
-    (g.F.Source.faults c.args.files.now) (g.F.Source.faults c.formatted.new.files) c.formatted.result)
+    (λ asked. IsCaused asked (g.F.Source.content before)
+    (outside (g.F.Source.opened before) (g.F.Source.left before) (g.F.Source.faults before))
+    (outside (g.F.Source.opened after) (g.F.Source.left after) (g.F.Source.faults after))
+    c.formatted.result)
     c.in-Format.ensures c.formatted.ensures.caused
+
+pub returns-in-Solve-clause-caused : goal.returns-in-Solve-clause-caused
+returns-in-Solve-clause-caused g c =
+    let before = c.args.files.now in
+    let after = c.solved.new.files in
+    subst
+    (λ asked. IsCaused asked (g.F.Source.content before)
+    (outside (g.F.Source.opened before) (g.F.Source.left before) (g.F.Source.faults before))
+    (outside (g.F.Source.opened after) (g.F.Source.left after) (g.F.Source.faults after))
+    c.solved.result)
+    c.in-Solve.ensures c.solved.ensures.caused

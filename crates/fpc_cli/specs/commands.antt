@@ -1,0 +1,4 @@
+pub mod Verify
+pub mod Format
+pub mod Solve
+pub mod Usage

@@ -1,0 +1,5 @@
+//! What the program's commands do: each in a file of its own.
+
+pub mod format;
+pub mod solve;
+pub mod verify;

@@ -1,0 +1,181 @@
+//! `verify`: the verdict on an explicit certificate.
+ghost use Rattle.std.specs.Prelude.{◌≡◌, ◌≢◌, ◌≤◌, ◌<◌, ◌⊎◌, [], ◌∷◌, List, ℕ, IfOk, IfErr};
+ghost use Rattle.fpc_base.specs.Lexeme.{items_of};
+ghost use Rattle.fpc_base.specs.Outside.{IsAtStartOf};
+ghost use Rattle.polarised_formulas.specs.Formula.{IsClosed, IsLkf};
+ghost use Rattle.polarised_formulas.specs.ReadProblem.{ProblemIsRead};
+ghost use Rattle.polarised_formulas.specs.declared.logic.Logic.TheVariants.{Lkf};
+ghost use Rattle.fpc_cli.specs.Command.{verify as asked_to_verify};
+ghost use Rattle.fpc_cli.specs.Grammars.{first_place, lkf_problem};
+ghost use Rattle.fpc_cli.specs.Inputs.{outside, source, stream, IsReadWhole, Decides, Comes};
+ghost use Rattle.fpc_cli.specs.Run.{IsCaused};
+ghost use Rattle.fpc_cli.specs.commands.Verify.{IsAnswerOf, VerifyEnds, EndsVerify};
+
+use crate::answer::{Answer, Role};
+use crate::source::source_in;
+use explicit_kernel::laws::first_judgment;
+use explicit_kernel::verify::{Verdict, VerifyRefusal, verify};
+use fpc_base::outside::Files;
+use fpc_base::refusal::{Code, ParseRefusal, Refusal};
+use fpc_base::steps::Steps;
+use fpc_base::tokens::Tokens;
+use fpc_terms::names::Names;
+use polarised_formulas::logic::Logic;
+use polarised_formulas::problem::{Problem, read_problem};
+use std::alloc::Global;
+use std::marker::Brand;
+use std::sync::ledger::{Blank, Ledger};
+
+/// The place of the first token.
+fn first_place(bytes: &[u8]) -> usize
+    ensures { result ≡ first_place (items_of bytes.now) }
+{
+    let mut tokens = Tokens::new(bytes);
+    match tokens.next() {
+        Ok(Some(token)) => token.at,
+        _ => 0,
+    }
+}
+
+/// The refusal of a problem of LJF.
+fn not_built(bytes: &[u8]) -> Answer
+    ensures { result ≡ Answer.Refused Role.Problem
+        (record { code = Code.NotBuilt; at = first_place (items_of bytes.now) }) }
+{
+    Answer::Refused {
+        role: Role::Problem,
+        refusal: Refusal {
+            code: Code::NotBuilt,
+            at: first_place(bytes),
+        },
+    }
+}
+
+/// Opens and reads the problem's file.
+fn problem_in<F: Files>(
+    alloc: Global,
+    names: &mut Names,
+    name: &str,
+    files: &mut F,
+) -> Result<Problem, Answer>
+    ensures logic { IfOk result (λ p. p.logic ≡ Lkf) }
+    ensures closed { IfOk result (λ p. IsClosed p.goal) }
+    ensures lkf { IfOk result (λ p. IsLkf p.goal) }
+    ensures read { IfOk result (λ p. (bytes : List ℕ)
+        × (IsReadWhole (F.content files.old name.now) name.now
+        (outside (F.opened files.old) (F.left files.old) (F.faults files.old))
+        (outside (F.opened files.new) (F.left files.new) (F.faults files.new)) bytes
+        × ProblemIsRead (items_of bytes) names.new Lkf p.goal)) }
+    ensures decides { IfErr result (Decides (F.content files.old) []
+        (source Role.Problem name.now (λ earlier. lkf_problem))
+        (outside (F.opened files.old) (F.left files.old) (F.faults files.old))
+        (outside (F.opened files.new) (F.left files.new) (F.faults files.new))) }
+    ensures never_falls { F.faults files.old ≤ F.faults files.new }
+    ensures content { F.content files.new ≡ F.content files.old }
+{
+    let bytes = match source_in(alloc, Role::Problem, name, files) {
+        Ok(bytes) => bytes,
+        Err(answer) => return Err(answer),
+    };
+    match read_problem(alloc, names, bytes.as_slice()) {
+        Ok(problem) => {
+            let logic = problem.logic;
+            match logic {
+                Logic::Lkf => Ok(problem),
+                Logic::Ljf => Err(not_built(bytes.as_slice())),
+            }
+        }
+        Err(ParseRefusal::Refused(refusal)) => Err(Answer::Refused {
+            role: Role::Problem,
+            refusal,
+        }),
+        Err(ParseRefusal::OutOfMemory) => Err(Answer::OutOfMemory),
+    }
+}
+
+/// The answer that a verdict is.
+fn answer_of(verdict: Result<Verdict, VerifyRefusal>) -> Answer
+    ensures { IsAnswerOf verdict result }
+{
+    match verdict {
+        Ok(Verdict::Accepted { steps }) => Answer::Accepted { steps },
+        Ok(Verdict::Rejected { at }) => Answer::Rejected { at },
+        Err(VerifyRefusal::Refused(refusal)) => Answer::Refused {
+            role: Role::Explicit,
+            refusal,
+        },
+        Err(VerifyRefusal::ReadFault) => Answer::ReadFault,
+        Err(VerifyRefusal::OutOfMemory) => Answer::OutOfMemory,
+    }
+}
+
+/// Checks the open explicit certificate against the problem.
+fn judged<F: Files, L: Ledger>(
+    alloc: Global,
+    names: &mut Names,
+    problem: &Problem,
+    files: &mut F,
+    blank: Blank,
+) -> Answer
+    requires logic { problem.now.logic ≡ Lkf }
+    requires closed { IsClosed problem.now.goal }
+    requires lkf { IsLkf problem.now.goal }
+    requires name { blank.name ≡ L.name }
+    requires parts { blank.parts ≡ L.parts }
+    requires one { 0 < L.parts }
+    ensures ends { (bytes name : List ℕ)
+        → ProblemIsRead (items_of bytes) names.old Lkf problem.now.goal
+        → IsAtStartOf (F.content files.old name) (F.left files.old)
+        → VerifyEnds bytes (F.content files.old name)
+        (outside (F.opened files.old) (F.left files.old) (F.faults files.old))
+        (outside (F.opened files.new) (F.left files.new) (F.faults files.new)) result }
+    ensures never_falls { F.faults files.old ≤ F.faults files.new }
+    ensures content { F.content files.new ≡ F.content files.old }
+{
+    let mut steps = Steps::<L>::new(blank);
+    let verdict = verify(alloc, names, problem, files, &mut steps);
+    names.distinct();
+    first_judgment();
+    answer_of(verdict)
+}
+
+/// Opens the explicit certificate and checks it against the problem.
+fn checked<F: Files>(
+    alloc: Global,
+    names: &mut Names,
+    problem: &Problem,
+    name: &str,
+    files: &mut F,
+) -> Answer
+    requires logic { problem.now.logic ≡ Lkf }
+    requires closed { IsClosed problem.now.goal }
+    requires lkf { IsLkf problem.now.goal }
+    ensures comes { (bytes : List ℕ)
+        → ProblemIsRead (items_of bytes) names.old Lkf problem.now.goal
+        → Comes (F.content files.old) (EndsVerify (F.content files.old name.now)) (bytes ∷ [])
+        (stream name.now ∷ [])
+        (outside (F.opened files.old) (F.left files.old) (F.faults files.old))
+        (outside (F.opened files.new) (F.left files.new) (F.faults files.new)) result }
+    ensures never_falls { F.faults files.old ≤ F.faults files.new }
+    ensures content { F.content files.new ≡ F.content files.old }
+{
+    if files.open(name).is_err() {
+        return Answer::ReadFault;
+    }
+    judged::<F, Brand>(alloc, names, problem, files, Blank::new(1))
+}
+
+/// The answer to `verify`.
+pub fn verified<F: Files>(alloc: Global, problem: &str, explicit: &str, files: &mut F) -> Answer
+    ensures caused { IsCaused (asked_to_verify problem.now explicit.now) (F.content files.old)
+        (outside (F.opened files.old) (F.left files.old) (F.faults files.old))
+        (outside (F.opened files.new) (F.left files.new) (F.faults files.new)) result }
+    ensures never_falls { F.faults files.old ≤ F.faults files.new }
+    ensures content { F.content files.new ≡ F.content files.old }
+{
+    let mut names = Names::new(alloc);
+    match problem_in(alloc, &mut names, problem, files) {
+        Ok(problem) => checked(alloc, &mut names, &problem, explicit, files),
+        Err(answer) => answer,
+    }
+}
