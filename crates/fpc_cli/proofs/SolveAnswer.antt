@@ -8,7 +8,7 @@ use Rattle.fpc_terms.specs.ReadTerm.{any_variable}
 use Rattle.fpc_terms.specs.Written.{WrittenTerm, application, IsTerm}
 use Rattle.fpc_terms.proofs.AnyTerm.{any-term, term_limits-once}
 use Rattle.fpc_terms.proofs.TermReading.{is-whole}
-use Rattle.polarised_formulas.proofs.ReadingLaws.{all-not_both, all-refused_once}
+use Rattle.fpc_base.proofs.ReadingLaws.{all-not_both, all-refused_once}
 use Rattle.clause_language.specs.ReadAtom.{IsAtom, AtomLimits}
 use Rattle.clause_language.specs.Written.{WrittenAtom}
 use Rattle.clause_language.proofs.FileReading.{definition-not_both}
