@@ -17,7 +17,7 @@ use Rattle.polarised_formulas.specs.declared.logic.Logic.{Logic}
 use Rattle.polarised_formulas.specs.declared.logic.Logic.TheVariants.{Lkf, Ljf}
 use Rattle.polarised_formulas.specs.Written.{logic_word}
 use Rattle.polarised_formulas.specs.Machine.{logic_of}
-use Rattle.polarised_formulas.proofs.ReadingLaws.{taken-refused, refused-once}
+use Rattle.fpc_base.proofs.ReadingLaws.{taken-refused, refused-once}
 use Rattle.polarised_formulas.proofs.ProblemLaws.{term-dot, logic_of-word}
 use Rattle.clause_language.specs.declared.file.FileKind.{FileKind}
 use Rattle.clause_language.specs.declared.file.FileKind.TheVariants.{Definition, Certificate}

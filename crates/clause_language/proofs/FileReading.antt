@@ -7,7 +7,7 @@ use Rattle.fpc_base.specs.Lexeme.{Lexeme, Item, says, fault}
 use Rattle.fpc_base.specs.Reading.{IsTaken, IsRefused, ReadsAll, RefusesAll}
 use Rattle.fpc_base.specs.Reading as reading
 use Rattle.polarised_formulas.specs.declared.logic.Logic.{Logic}
-use Rattle.polarised_formulas.proofs.ReadingLaws.{all-not_both, all-once, all-refused_once}
+use Rattle.fpc_base.proofs.ReadingLaws.{all-not_both, all-once, all-refused_once}
 use Rattle.clause_language.specs.declared.file.FileKind.{FileKind}
 use Rattle.clause_language.specs.declared.file.FileKind.TheVariants.{Definition, Certificate}
 use Rattle.clause_language.specs.Written.{WrittenDefinition, WrittenCertificate, IsDefinition, IsCertificate}

@@ -38,3 +38,4 @@ pub mod AtomFacts
 pub mod Joined
 pub mod Words
 pub mod AtomRoom
+pub mod OneAtom

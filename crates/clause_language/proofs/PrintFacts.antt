@@ -3,6 +3,7 @@ use Rattle.std.proofs.Common.{◌≡◌, ℕ, List, [], ◌∷◌, ◌++◌, ref
 use Rattle.std.specs.Prelude.{zero, suc, codes}
 use Rattle.fpc_terms.specs.Term.{Term, app}
 use Rattle.fpc_terms.specs.Text.{name_in, plain_leaves, term_text, args_before, more_before}
+use Rattle.fpc_terms.proofs.PrintFacts.{StartsWith-same, StartsWith-more, StartsWith-written}
 use Rattle.polarised_formulas.specs.declared.logic.Logic.{Logic}
 use Rattle.polarised_formulas.specs.Text.{named_style, formula_before, logic_text}
 use Rattle.polarised_formulas.proofs.PrintFacts.{term_before-append, formula_before-append}
@@ -10,6 +11,9 @@ use Rattle.clause_language.specs.declared.atom.Atom.{Atom}
 use Rattle.clause_language.specs.declared.clause.Clause.{Clause}
 use Rattle.clause_language.specs.declared.declaration.DeclaredFormula.{DeclaredFormula}
 use Rattle.clause_language.specs.Text.{args_of, atom_before, more_atoms_before, body_before, clause_before, parameter_text, more_parameters_before, parameters_before, declaration_before, declared_before, clauses_before, file_before, term_line}
+
+-- bytes that stay at the front
+pub ruleset kept_fronts = (StartsWith-same, StartsWith-more, StartsWith-written)
 
 -- a text with other bytes behind it is the text before these bytes
 

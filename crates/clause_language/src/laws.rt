@@ -1,10 +1,11 @@
 //! Laws over the definitions of files and their texts, each the contract of a function with nothing to run.
 ghost use Rattle.clause_language.specs.RoundTrip.{CertificateIsReadBack, CertificateTextIsRead, DefinitionIsReadBack, DefinitionTextIsRead, ReadCertificateIsPrintable, ReadDefinitionIsPrintable};
-ghost use Rattle.clause_language.specs.OneAnswer.{CertificateIsNotBoth, CertificateIsReadOnce, CertificateIsRefusedOnce, DefinitionIsNotBoth, DefinitionIsReadOnce, DefinitionIsRefusedOnce};
+ghost use Rattle.clause_language.specs.OneAnswer.{AtomIsNotBoth, AtomIsReadOnce, AtomIsRefusedOnce, AtomIsRefusedWithin, CertificateIsRefusedWithin, DefinitionIsRefusedWithin, CertificateIsNotBoth, CertificateIsReadOnce, CertificateIsRefusedOnce, DefinitionIsNotBoth, DefinitionIsReadOnce, DefinitionIsRefusedOnce};
 ghost use Rattle.clause_language.specs.ReadAs.{ReadCertificateIsAs, ReadDefinitionIsAs};
 ghost use Rattle.clause_language.specs.Joined.{DefinitionIsProgram, JoinedIsProgram};
 
-/// A file is read as one definition or certificate, or it is refused as one in one way, and not both.
+/// A file is read as one definition or certificate, and a text as one atom, or it is refused as one in
+/// one way, and not both. A refusal lies within the file or the text, or at its end.
 pub fn one_answer()
     ensures definition_read { DefinitionIsReadOnce }
     ensures definition_refused { DefinitionIsRefusedOnce }
@@ -12,6 +13,12 @@ pub fn one_answer()
     ensures certificate_read { CertificateIsReadOnce }
     ensures certificate_refused { CertificateIsRefusedOnce }
     ensures certificate_both { CertificateIsNotBoth }
+    ensures atom_read { AtomIsReadOnce }
+    ensures atom_refused { AtomIsRefusedOnce }
+    ensures atom_both { AtomIsNotBoth }
+    ensures definition_within { DefinitionIsRefusedWithin }
+    ensures certificate_within { CertificateIsRefusedWithin }
+    ensures atom_within { AtomIsRefusedWithin }
 {}
 
 /// A definition or a certificate within the limits is read from its printed form, and what was read is within the limits, so it is read

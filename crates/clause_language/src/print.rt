@@ -1,7 +1,7 @@
 //! Definitions and certificates as texts.
-ghost use Rattle.std.specs.Prelude.{◌≡◌, ◌<◌, ◌+◌, ◌++◌, ◌∷◌, [], OnOk, IfOk, length};
+ghost use Rattle.std.specs.Prelude.{◌≡◌, ◌<◌, ◌+◌, ◌++◌, ◌∷◌, [], OnOk, OnErr, IfOk, length};
 ghost use Rattle.fpc_terms.specs.Text.{name_in, plain_leaves, more_before, args_before, term_text, room_left};
-ghost use Rattle.fpc_terms.specs.Printing.{HasNamesBelow};
+ghost use Rattle.fpc_terms.specs.Printing.{HasNamesBelow, StartsWith};
 ghost use Rattle.polarised_formulas.specs.Text.{logic_text};
 ghost use Rattle.clause_language.specs.Text.{args_of, atom_before, more_atoms_before, body_before, clause_before, parameters_before, declaration_before, declared_before, clauses_before, file_before, definition_text, certificate_text};
 ghost use Rattle.clause_language.specs.Naming.{AreTermsNamedBelow, IsAtomNamedBelow, AreAtomsNamedBelow, IsClauseNamedBelow, AreClausesNamedBelow, IsDeclarationNamedBelow, AreDeclaredNamedBelow, IsDefinitionNamedBelow, IsCertificateNamedBelow};
@@ -201,7 +201,9 @@ fn push_more_atoms(
     Ok(())
 }
 
-/// Puts the text of an atom behind other bytes. On a refusal `out` may have some of it. Time and memory are linear in the text's size.
+/// Adds the text of an atom after other bytes. On a refusal `out` is as before. Time and memory are
+/// linear in the text's size.
+#[tactic(auto, using(crate::proofs::PrintFacts::kept_fronts))]
 pub fn print_atom(
     alloc: Global,
     names: &Names,
@@ -209,13 +211,35 @@ pub fn print_atom(
     out: &mut Vec<u8>,
 ) -> Result<(), OutOfMemory>
     requires { IsAtomNamedBelow (length names.now) atom.now }
-    ensures { OnOk result (out.new.items ≡ out.old.items ++ atom_before names.now atom.now []) }
+    ensures ok { OnOk result (out.new.items ≡ out.old.items ++ atom_before names.now atom.now []) }
+    ensures err { OnErr result (out.new.items ≡ out.old.items) }
+{
+    let start = out.len();
+    let printed = push_atom(alloc, names, atom, out);
+    if printed.is_err() {
+        out.truncate(start);
+    }
+    printed
+}
+
+/// Adds the text of an atom after other bytes, which stay at the front in any case.
+#[tactic(auto, using(crate::proofs::PrintFacts::kept_fronts))]
+fn push_atom(
+    alloc: Global,
+    names: &Names,
+    atom: &Atom,
+    out: &mut Vec<u8>,
+) -> Result<(), OutOfMemory>
+    requires { IsAtomNamedBelow (length names.now) atom.now }
+    ensures ok { OnOk result (out.new.items ≡ out.old.items ++ atom_before names.now atom.now []) }
+    ensures front { StartsWith out.old.items out.new.items }
 {
     push_name(names, atom.name, out)?;
     push_arguments(alloc, names, atom.arguments.items(), out)
 }
 
-/// Puts arguments behind other bytes, in parentheses where there are any.
+/// Adds arguments after other bytes, in parentheses where there are any.
+#[tactic(auto, using(crate::proofs::PrintFacts::kept_fronts))]
 fn push_arguments(
     alloc: Global,
     names: &Names,
@@ -223,7 +247,9 @@ fn push_arguments(
     out: &mut Vec<u8>,
 ) -> Result<(), OutOfMemory>
     requires { AreTermsNamedBelow (length names.now) arguments.now }
-    ensures { OnOk result (out.new.items ≡ out.old.items ++ args_before (plain_leaves (name_in names.now)) (args_of arguments.now) []) }
+    ensures ok { OnOk result (out.new.items ≡ out.old.items
+        ++ args_before (plain_leaves (name_in names.now)) (args_of arguments.now) []) }
+    ensures front { StartsWith out.old.items out.new.items }
 {
     match arguments.split_first() {
         None => Ok(()),
@@ -235,7 +261,8 @@ fn push_arguments(
     }
 }
 
-/// Puts the arguments behind the first one, and the parenthesis that closes them, behind other bytes.
+/// Adds the arguments after the first one, and the parenthesis that closes them, after other bytes.
+#[tactic(auto, using(crate::proofs::PrintFacts::kept_fronts))]
 fn push_more_arguments(
     alloc: Global,
     names: &Names,
@@ -243,7 +270,9 @@ fn push_more_arguments(
     out: &mut Vec<u8>,
 ) -> Result<(), OutOfMemory>
     requires { AreTermsNamedBelow (length names.now) arguments.now }
-    ensures { OnOk result (out.new.items ≡ out.old.items ++ more_before (plain_leaves (name_in names.now)) (args_of arguments.now) []) }
+    ensures ok { OnOk result (out.new.items ≡ out.old.items
+        ++ more_before (plain_leaves (name_in names.now)) (args_of arguments.now) []) }
+    ensures front { StartsWith out.old.items out.new.items }
 {
     for term in arguments {
         out.push(b',')?;

@@ -46,6 +46,7 @@ fn read_through<S: Source>(
     ensures too_large { IsErrOf result ReadRefusal.TooLarge → HasMoreThan limit (S.left src.old) }
     ensures too_large_count { IsErrOf result ReadRefusal.TooLarge → S.faults src.new ≡ S.faults src.old }
     ensures failed { IsErrOf result ReadRefusal.Failed → Rose (S.faults src.old) (S.faults src.new) }
+    ensures memory_count { IsErrOf result ReadRefusal.OutOfMemory → S.faults src.new ≡ S.faults src.old }
     ensures taken { OnErr result (TakesAtMost (limit + 1) (S.left src.old) (S.left src.new)) }
 
     ensures content { S.content src.new ≡ S.content src.old }
@@ -80,6 +81,7 @@ pub fn read_all<S: Source>(alloc: Global, src: &mut S, limit: usize) -> Result<V
     ensures too_large { IsErrOf result ReadRefusal.TooLarge → HasMoreThan limit (S.left src.old) }
     ensures too_large_count { IsErrOf result ReadRefusal.TooLarge → S.faults src.new ≡ S.faults src.old }
     ensures failed { IsErrOf result ReadRefusal.Failed → Rose (S.faults src.old) (S.faults src.new) }
+    ensures memory_count { IsErrOf result ReadRefusal.OutOfMemory → S.faults src.new ≡ S.faults src.old }
     ensures taken { OnErr result (TakesAtMost (limit + 1) (S.left src.old) (S.left src.new)) }
 
     ensures content { S.content src.new ≡ S.content src.old }

@@ -7,7 +7,7 @@ use Rattle.fpc_terms.specs.Written.{WrittenTerm, application, IsTerm}
 use Rattle.fpc_terms.proofs.AnyTerm.{any-term, term_limits-once}
 use Rattle.fpc_terms.proofs.TermReading.{is-whole}
 use Rattle.polarised_formulas.proofs.ProblemReading.{problem-read_once, problem-refused_once, problem-not_both}
-use Rattle.polarised_formulas.proofs.ReadingLaws.{all-not_both, all-refused_once}
+use Rattle.fpc_base.proofs.ReadingLaws.{all-not_both, all-refused_once}
 use Rattle.polarised_formulas.specs.Written.{WrittenFormula, WrittenProblem}
 use Rattle.polarised_formulas.specs.declared.logic.Logic.TheVariants.{Lkf, Ljf}
 use Rattle.clause_language.proofs.FileReading.{definition-refused_once, definition-not_both, certificate-refused_once, certificate-not_both}

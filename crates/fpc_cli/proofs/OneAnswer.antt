@@ -1,7 +1,6 @@
 -- The words and the contents of the files have one answer, and it is the one that they call for.
 use Rattle.std.proofs.Common.{◌≡◌, ℕ, List, []}
 use Rattle.fpc_base.specs.Outside.{Content}
-use Rattle.explicit_kernel.specs.JudgmentLaws.{NumbersDontMatter}
 use Rattle.search_model.specs.Renaming.{AnsweredOnce}
 use Rattle.fpc_cli.specs.Command.{Asked, verify, format, solve, usage}
 use Rattle.fpc_cli.specs.Laws.{HasOneAnswer, AnswerIsDue}
@@ -10,7 +9,7 @@ use Rattle.fpc_cli.proofs.InputLaws.{IsLawfulTask, due, fits}
 use Rattle.fpc_cli.proofs.commands.FormatLaws.{format-lawful}
 use Rattle.fpc_cli.proofs.commands.SolveLaws.{solve-lawful}
 use Rattle.fpc_cli.proofs.commands.UsageLaws.{usage-lawful}
-use Rattle.fpc_cli.proofs.commands.VerifyLaws.{verify-lawful}
+use Rattle.fpc_cli.proofs.commands.VerifyLaws.{NumbersDontMatter, verify-lawful}
 
 module _ (numbers : NumbersDontMatter) (answered : AnsweredOnce) where
   -- each command owes what it owes

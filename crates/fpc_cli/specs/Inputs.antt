@@ -80,7 +80,8 @@ pub record IsReadWhole (content : Content) (name : List ℕ) (old new : Outside)
 abbrev pub IsUnread : Role → Content → List ℕ → Outside → Outside → Answer → Type 0
 IsUnread role content name old new ReadFault =
     IsUnopened content old new ⊎ (IsReadIn content name old new × Rose old.faults new.faults)
-IsUnread role content name old new OutOfMemory = IsReadIn content name old new
+IsUnread role content name old new OutOfMemory =
+    IsReadIn content name old new × (new.faults ≡ old.faults)
 IsUnread role content name old new (Refused r refusal) =
     (r ≡ role) × (refusal ≡ too_large) × MayBeTooLarge content × IsReadIn content name old new
     × (new.faults ≡ old.faults)

@@ -20,3 +20,4 @@ pub mod EqualityFacts
 pub mod LevelFacts
 pub mod RoomFacts
 pub mod SubstitutionFacts
+mod OneAnswer

@@ -14,3 +14,4 @@ pub mod Holding
 pub mod Printing
 pub mod ReadTerm
 pub mod Adding
+pub mod OneAnswer

@@ -4,6 +4,7 @@
 pub mod arguments;
 pub mod builder;
 pub mod cell;
+pub mod laws;
 pub mod list;
 pub mod name;
 pub mod names;

@@ -1,5 +1,5 @@
 //! A term that is being read, token by token.
-ghost use Rattle.std.specs.Prelude.{◌≡◌, ◌∷◌, [], ℕ, List, Bool, true, false, Some, None, IfOk, is_some, IsTrue, ◌↔◌};
+ghost use Rattle.std.specs.Prelude.{◌≡◌, ◌∷◌, [], ℕ, List, Bool, true, false, Some, None, Ok, IfOk, is_some, IsTrue, ◌↔◌};
 ghost use Rattle.fpc_base.specs.Lexeme.{lexeme_as, a_variable, a_sign};
 ghost use Rattle.fpc_base.specs.declared.tokens.lexeme.Sign.TheVariants.{OpenParenthesis, CloseParenthesis, Comma};
 ghost use Rattle.fpc_terms.specs.Name.{Agrees, Grows};
@@ -260,9 +260,15 @@ impl TermReader {
 
     /// The term by itself, where it is whole. Time and memory are linear in its size.
     pub fn finish(&mut self, alloc: Global) -> Result<Option<TermBuf>, OutOfMemory>
-        ensures { (number : List ℕ → ℕ) (leaf : List ℕ → Term) (s : TermState) (w : WrittenTerm) → Holds number leaf s self.old → whole_of s ≡ Some w
+        ensures whole { (number : List ℕ → ℕ) (leaf : List ℕ → Term) (s : TermState)
+            (w : WrittenTerm) → Holds number leaf s self.old → whole_of s ≡ Some w
             → IfOk result (λ found. found ≡ Some (term_meant number leaf w)) }
+        ensures none { (number : List ℕ → ℕ) (leaf : List ℕ → Term) (s : TermState)
+            → Holds number leaf s self.old → whole_of s ≡ None → result ≡ Ok None }
     {
+        if !self.is_whole() {
+            return Ok(None);
+        }
         let mode = self.mode;
         if let Mode::Named(name) = mode {
             self.terms.constant(name)?;

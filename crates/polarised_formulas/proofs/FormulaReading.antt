@@ -11,7 +11,7 @@ use Rattle.polarised_formulas.specs.declared.logic.Logic.{Logic}
 use Rattle.polarised_formulas.specs.Written.{WrittenFormula, IsFormula}
 use Rattle.polarised_formulas.specs.Place.{whole, FormulaLimits}
 use Rattle.polarised_formulas.specs.Machine.{FormulaState, wants, whole_of, is_ended, limited}
-use Rattle.polarised_formulas.proofs.ReadingLaws.{LeadsFront, LeadsFront-start, LeadsFront-taken, RefusesFront-refused, front-once, front-refused_once, front-not_both}
+use Rattle.fpc_base.proofs.ReadingLaws.{LeadsFront, LeadsFront-start, LeadsFront-taken, RefusesFront-refused, front-once, front-refused_once, front-not_both}
 use Rattle.polarised_formulas.proofs.FormulaLaws.{formula-once, state_behind, state_behind-step, whole-formula, formula-whole, final-told}
 use Rattle.polarised_formulas.proofs.Limits.{limits-once, refused-told, taken-told, unexpected-told}
 

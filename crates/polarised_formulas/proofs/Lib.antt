@@ -14,7 +14,6 @@ pub mod Complete
 pub mod Viable
 pub mod FormulaLaws
 pub mod Limits
-pub mod ReadingLaws
 pub mod FormulaReading
 pub mod ProblemLaws
 pub mod ProblemLimits

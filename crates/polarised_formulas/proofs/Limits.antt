@@ -14,7 +14,7 @@ use Rattle.polarised_formulas.specs.Place.{Place, nesting, FormulaLimits, too_de
 use Rattle.polarised_formulas.specs.Machine.{FormulaState, wants, in_atom, stuck, step, is_deep, is_full, within, limited}
 use Rattle.polarised_formulas.proofs.States.{IsLive}
 use Rattle.polarised_formulas.proofs.Sound.{live-run}
-use Rattle.polarised_formulas.proofs.ReadingLaws.{taken-refused, refused-once}
+use Rattle.fpc_base.proofs.ReadingLaws.{taken-refused, refused-once}
 use Rattle.polarised_formulas.proofs.FormulaLaws.{formula-once, state_behind, BeginsFormula, state_behind-step, step-begins, begins-step, state-leads_to, leads_to-state, state-leads_into, leads_into-state}
 
 module _ (logic : Logic) (parameters : List (List ℕ)) where

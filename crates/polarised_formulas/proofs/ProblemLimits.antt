@@ -12,7 +12,7 @@ use Rattle.polarised_formulas.specs.Written.{WrittenFormula, IsProblem, logic_wo
 use Rattle.polarised_formulas.specs.Place.{FormulaLimits, too_deep, many_arguments, ProblemLimits, in_formula}
 use Rattle.polarised_formulas.specs.Machine.{FormulaState, wants, stuck, step, whole_of, limited, ProblemState, reading, lost, logic_of, begun_in, dotted, read_on, begun_within, dotted_within, read_within, problem_step, limited_problem}
 use Rattle.polarised_formulas.proofs.States.{IsLive}
-use Rattle.polarised_formulas.proofs.ReadingLaws.{taken-refused, refused-once}
+use Rattle.fpc_base.proofs.ReadingLaws.{taken-refused, refused-once}
 use Rattle.polarised_formulas.proofs.FormulaLaws.{state_behind, state_behind-step, step-begins, begins-step, leads_to-state, leads_into-state}
 use Rattle.polarised_formulas.proofs.Limits.{IsJudged, limited-judged, limits-once}
 use Rattle.polarised_formulas.proofs.ProblemLaws.{step-dot, read_on-live, IsLiveProblem, problem_behind, Stands, at_start, within_formula, at_end, nowhere, stands, problem-once, step-begins_problem, begins-step_problem}

@@ -9,7 +9,7 @@ use Rattle.fpc_base.specs.Reading as reading
 use Rattle.polarised_formulas.specs.Written.{WrittenProblem, IsProblem}
 use Rattle.polarised_formulas.specs.Place.{ProblemLimits}
 use Rattle.polarised_formulas.specs.Machine.{ProblemState, start, finished, problem_of, limited_problem}
-use Rattle.polarised_formulas.proofs.ReadingLaws.{LeadsAll, LeadsAll-start, LeadsAll-taken, all-not_both, all-once, all-refused_once}
+use Rattle.fpc_base.proofs.ReadingLaws.{LeadsAll, LeadsAll-start, LeadsAll-taken, all-not_both, all-once, all-refused_once}
 use Rattle.polarised_formulas.proofs.ProblemLaws.{problem_behind, problem_behind-step, problem-finished, finished-problem, problem-once}
 use Rattle.polarised_formulas.proofs.ProblemLimits.{problem_limits-once, problem_refused-told, problem_taken-told}
 

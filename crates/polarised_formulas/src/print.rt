@@ -18,9 +18,9 @@ use fpc_base::outside::OutOfMemory;
 use fpc_terms::names::Names;
 use std::alloc::Global;
 
-/// Puts the plain form of a formula behind other bytes. In LJF, which has one `ff` and one disjunction, their polarity
-/// is left out. On a refusal `out` is as before. Time and memory are linear in the text's size.
-#[tactic(auto, using(crate::proofs::PrintFacts::print_facts))]
+/// Adds the plain form of a formula after other bytes. In LJF, which has one `ff` and one
+/// disjunction, their polarity is left out. On a refusal `out` is as before. Time and memory are
+/// linear in the text's size.
 pub fn print_formula(
     alloc: Global,
     names: &Names,
@@ -32,22 +32,17 @@ pub fn print_formula(
     ensures ok { OnOk result (out.new.items ≡ out.old.items ++ plain_text names.now logic f.now) }
     ensures err { OnErr result (out.new.items ≡ out.old.items) }
 {
-    let start = out.len();
     let writer = Writer {
         alloc,
         names,
         logic,
         form: Form::Plain,
     };
-    let printed = writer.push_formula(f, out);
-    if printed.is_err() {
-        out.truncate(start);
-    }
-    printed
+    writer.push_formula(f, out)
 }
 
-/// Puts a formula with named variables, as in the text of a problem, behind other bytes. On a refusal `out` may have some of
-/// it. Time and memory are linear in the text's size.
+/// Adds a formula with named variables, as in the text of a problem, after other bytes. On a
+/// refusal `out` is as before. Time and memory are linear in the text's size.
 pub fn push_named_formula(
     alloc: Global,
     names: &Names,
@@ -56,7 +51,9 @@ pub fn push_named_formula(
     out: &mut Vec<u8>,
 ) -> Result<(), OutOfMemory>
     requires { AllNamesBelow (length names.now) f.now }
-    ensures { OnOk result (out.new.items ≡ out.old.items ++ formula_before (named_style (name_in names.now)) logic 0 f.now []) }
+    ensures ok { OnOk result (out.new.items ≡ out.old.items
+        ++ formula_before (named_style (name_in names.now)) logic 0 f.now []) }
+    ensures err { OnErr result (out.new.items ≡ out.old.items) }
 {
     let writer = Writer {
         alloc,

@@ -1,5 +1,5 @@
 //! A formula that is being read, token by token.
-ghost use Rattle.std.specs.Prelude.{◌≡◌, ◌∷◌, [], ℕ, List, Bool, true, false, Some, None, IfOk, IfErr, OnOk, is_some, IsTrue, ◌↔◌, slice_get, length};
+ghost use Rattle.std.specs.Prelude.{◌≡◌, ◌∷◌, [], ℕ, List, Bool, true, false, Some, None, Ok, IfOk, IfErr, OnOk, is_some, IsTrue, ◌↔◌, slice_get, length};
 ghost use Rattle.fpc_base.specs.Lexeme.{lexeme_as, a_sign, a_name, a_variable};
 ghost use Rattle.fpc_base.specs.declared.tokens.lexeme.Sign.TheVariants.{CloseParenthesis, OpenParenthesis};
 ghost use Rattle.fpc_terms.specs.Name.{IsName, Agrees, Grows};
@@ -548,7 +548,25 @@ impl<'a> FormulaReader<'a> {
 
     /// The formula, where it is whole. Time and memory are linear in its size.
     pub fn finish(self) -> Result<Option<Formula>, OutOfMemory>
-        ensures { (number : List ℕ → ℕ) (logic : Logic) (parameters : List (List ℕ)) (s : FormulaState) (w : WrittenFormula) → Holds number logic parameters s self.entry → whole_of s ≡ Some w
+        ensures whole { (number : List ℕ → ℕ) (logic : Logic) (parameters : List (List ℕ))
+            (s : FormulaState) (w : WrittenFormula) → Holds number logic parameters s self.entry
+            → whole_of s ≡ Some w
+            → IfOk result (λ found. found ≡ Some (formula_meant number parameters [] w)) }
+        ensures none { (number : List ℕ → ℕ) (logic : Logic) (parameters : List (List ℕ))
+            (s : FormulaState) → Holds number logic parameters s self.entry
+            → whole_of s ≡ None → result ≡ Ok None }
+    {
+        if self.is_whole() {
+            return self.finish_whole();
+        }
+        Ok(None)
+    }
+
+    /// The formula, which is whole.
+    fn finish_whole(self) -> Result<Option<Formula>, OutOfMemory>
+        ensures { (number : List ℕ → ℕ) (logic : Logic) (parameters : List (List ℕ))
+            (s : FormulaState) (w : WrittenFormula) → Holds number logic parameters s self.entry
+            → whole_of s ≡ Some w
             → IfOk result (λ found. found ≡ Some (formula_meant number parameters [] w)) }
     {
         let alloc = self.alloc;

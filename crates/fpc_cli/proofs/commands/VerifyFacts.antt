@@ -13,13 +13,12 @@ use Rattle.polarised_formulas.specs.Place.{ProblemLimits}
 use Rattle.polarised_formulas.specs.Written.{WrittenProblem, IsProblem}
 use Rattle.polarised_formulas.specs.declared.logic.Logic.{Logic}
 use Rattle.polarised_formulas.proofs.Standing.{Agrees-grows}
-use Rattle.explicit_kernel.specs.Judgment.{Judgment, accepted, rejected, refused, Course, course_of, judgment}
+use Rattle.explicit_kernel.specs.Judgment.{Judgment, accepted, rejected, refused, Course, judged as shown_judgment, course_of, judgment}
 use Rattle.explicit_kernel.specs.Verdict.{IsJudged, IsRight, HasReason}
 use Rattle.explicit_kernel.specs.declared.verify.Verdict.{Verdict}
 use Rattle.explicit_kernel.specs.declared.verify.Verdict.TheVariants.{Accepted as AcceptedBy, Rejected as RejectedAt}
 use Rattle.explicit_kernel.specs.declared.verify.VerifyRefusal.{VerifyRefusal}
 use Rattle.explicit_kernel.specs.declared.verify.VerifyRefusal.TheVariants.{Refused as RefusedAt, ReadFault as Fault, OutOfMemory as NoMemory}
-use Rattle.explicit_kernel.specs.JudgmentLaws.{JudgmentStays}
 use Rattle.fpc_cli.specs.declared.answer.Answer.{Answer}
 use Rattle.fpc_cli.specs.declared.answer.Answer.TheVariants.{Accepted, Rejected, Refused, ReadFault, OutOfMemory}
 use Rattle.fpc_cli.specs.declared.answer.Role.TheVariants.{Explicit}
@@ -61,6 +60,10 @@ held-so (holds b) old new taken h t = by new (subst (λ o. TakesFront o taken ne
     by : (n : Option (List ℕ)) → TakesFront (Some b) taken n → MayHold (holds b) (taken ++ left_of n)
     by None k = absurd k
     by (Some left) k = k
+
+-- bytes that show a judgment keep it
+abbrev pub JudgmentStays : Type 0
+JudgmentStays = (number : List ℕ → ℕ) (goal : Formula) (front more : List ℕ) (j : Judgment) → course_of number goal front ≡ shown_judgment j → judgment number goal (front ++ more) ≡ j
 
 -- at the end nothing is left
 nothing-left : (new : Option (List ℕ)) → IsAtEnd new → left_of new ≡ []

@@ -20,7 +20,6 @@ use Rattle.polarised_formulas.proofs.Numberings.{GivesBack-number_in, Agrees-num
 use Rattle.polarised_formulas.proofs.Passed.{IsRead-read}
 use Rattle.polarised_formulas.proofs.ProblemReading.{problem-read_once}
 use Rattle.explicit_kernel.specs.Judgment.{Judgment, Course, course_of, judgment}
-use Rattle.explicit_kernel.specs.JudgmentLaws.{NumbersDontMatter}
 use Rattle.fpc_cli.specs.declared.answer.Answer.{Answer}
 use Rattle.fpc_cli.specs.declared.answer.Answer.TheVariants.{Accepted, Rejected, Refused, ReadFault, OutOfMemory}
 use Rattle.fpc_cli.specs.declared.answer.Role.TheVariants.{Explicit}
@@ -33,6 +32,11 @@ use Rattle.fpc_cli.proofs.Contents.{held-so, one-content}
 use Rattle.fpc_cli.proofs.GrammarLaws.{lkf_problem-lawful}
 use Rattle.fpc_cli.proofs.InputLaws.{IsLawfulTask}
 use Rattle.fpc_cli.proofs.commands.VerifyFacts.{read-problem}
+
+-- the judgment of a certificate depends on no numbers of names
+abbrev pub NumbersDontMatter : Type 0
+NumbersDontMatter = (text text' : ℕ → List ℕ) (number number' : List ℕ → ℕ) → GivesBack text number → GivesBack text' number' → (w : WrittenFormula) → EachNameIn (λ x. begins_name x ≡ true) w
+    → (bytes : List ℕ) → judgment number (formula_meant number [] [] w) bytes ≡ judgment number' (formula_meant number' [] [] w) bytes
 
 -- a name token begins as a name
 begins-formed : (x : List ℕ) → HasForm Name x → begins_name x ≡ true

@@ -1,5 +1,5 @@
 //! The text of a formula, node by node.
-ghost use Rattle.std.specs.Prelude.{◌≡◌, ℕ, ◌++◌, [], OnOk, length};
+ghost use Rattle.std.specs.Prelude.{◌≡◌, ℕ, ◌++◌, [], OnOk, OnErr, length};
 ghost use Rattle.fpc_terms.specs.Printing.{StartsWith, IsNamedBelow, head_text};
 ghost use Rattle.polarised_formulas.specs.Text.{formula_before};
 ghost use Rattle.polarised_formulas.specs.Printing.{AllNamesBelow, IsNodeNamedBelow, AreNodesNamedBelow, form_style, node_text, nodes_text};
@@ -35,13 +35,19 @@ pub(crate) struct Writer<'a> {
 
 #[tactic(auto, using(crate::proofs::PrintFacts::print_facts))]
 impl<'a> Writer<'a> {
-    /// Writes a formula.
+    /// Writes a formula. On a refusal `out` is as before.
     pub(crate) fn push_formula(&self, f: &Formula, out: &mut Vec<u8>) -> Result<(), OutOfMemory>
         requires { AllNamesBelow (length self.now.names.now) f.now }
-        ensures ok { OnOk result (out.new.items ≡ out.old.items ++ formula_before (form_style self.now.form self.now.names.now) self.now.logic 0 f.now []) }
-        ensures front { StartsWith out.old.items out.new.items }
+        ensures ok { OnOk result (out.new.items ≡ out.old.items
+            ++ formula_before (form_style self.now.form self.now.names.now) self.now.logic 0 f.now []) }
+        ensures err { OnErr result (out.new.items ≡ out.old.items) }
     {
-        self.push_nodes(f.nodes(), out)
+        let start = out.len();
+        let printed = self.push_nodes(f.nodes(), out);
+        if printed.is_err() {
+            out.truncate(start);
+        }
+        printed
     }
 
     /// Writes the nodes of a formula.

@@ -10,6 +10,6 @@ loop-atom-preserved c =
     let parts : drop c.loop-atom.atom-index c.args.atoms.now ≡ c.atom-item.result ∷ drop (c.loop-atom.atom-index + 1) c.args.atoms.now =
     drop_more c.args.atoms.now c.loop-atom.atom-index c.atom-item.result low ∙ ap (λ one. one ∷ drop (c.loop-atom.atom-index + 1) c.args.atoms.now) (sym c.atom-item.is) in
     record {
-      text = one-written _ _ (λ bytes. codes ", " ++ atom_before c.args.names.now c.atom-item.result bytes) (λ xs ys. ap (λ bytes. codes ", " ++ bytes) (atom-append c.args.names.now c.atom-item.result xs ys)) (behind _ _ _ c.in_ok-extend_from_slice.ensures.items c.in_ok-print_atom.ensures) (ap (λ ones. c.loop-atom.out.items ++ more_atoms_before c.args.names.now ones []) (sym parts) ∙ c.loop-atom.invariant.text);
+      text = one-written _ _ (λ bytes. codes ", " ++ atom_before c.args.names.now c.atom-item.result bytes) (λ xs ys. ap (λ bytes. codes ", " ++ bytes) (atom-append c.args.names.now c.atom-item.result xs ys)) (behind _ _ _ c.in_ok-extend_from_slice.ensures.items c.in_ok-print_atom.ensures.ok) (ap (λ ones. c.loop-atom.out.items ++ more_atoms_before c.args.names.now ones []) (sym parts) ∙ c.loop-atom.invariant.text);
       named = (rw parts at c.loop-atom.invariant.named).1;
     }

@@ -13,7 +13,7 @@ returns-in-Ok-Some-clause-ok c =
       variables = l.variables;
       meant = λ number a.
           (let e = rw c.in-Ok-Some.field-0-is at
-          (c.in-Ok-Some.ensures number (numbered (index_in c.read_whole.new.vars)) l.state l.written (l.holds number (index_in c.read_whole.new.vars) a (Agrees-index_in _ c.distinct-2.ensures)) l.whole) in cc);
+          (c.in-Ok-Some.ensures.whole number (numbered (index_in c.read_whole.new.vars)) l.state l.written (l.holds number (index_in c.read_whole.new.vars) a (Agrees-index_in _ c.distinct-2.ensures)) l.whole) in cc);
     }
 
 pub returns-in-Ok-Some-clause-named : goal.returns-in-Ok-Some-clause-named
@@ -22,4 +22,4 @@ returns-in-Ok-Some-clause-named c =
     told-below c.read_whole.new.names c.distinct.ensures (numbered (index_in c.read_whole.new.vars)) (λ x. tt) c.in-Ok-Some.term l.written (Agrees-index_in _ c.distinct.ensures)
     (λ number a.
     (let e = rw c.in-Ok-Some.field-0-is at
-    (c.in-Ok-Some.ensures number (numbered (index_in c.read_whole.new.vars)) l.state l.written (l.holds number (index_in c.read_whole.new.vars) a (Agrees-index_in _ c.distinct-2.ensures)) l.whole) in cc))
+    (c.in-Ok-Some.ensures.whole number (numbered (index_in c.read_whole.new.vars)) l.state l.written (l.holds number (index_in c.read_whole.new.vars) a (Agrees-index_in _ c.distinct-2.ensures)) l.whole) in cc))

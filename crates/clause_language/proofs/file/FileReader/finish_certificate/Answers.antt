@@ -6,4 +6,4 @@ pub returns-in-Ok-Some : goal.returns-in-Ok-Some
 returns-in-Ok-Some c = λ names kind expected earlier s h.
     rw c.count.ensures
     (certificate-ends names kind expected earlier s c.args.self h c.in-Ok-Some.term c.in-Finished.is c.distinct.ensures
-    (λ number leaf t w k e. sym c.in-Ok-Some.field-0-is ∙ c.in-Ok-Some.ensures number leaf t w k e))
+    (λ number leaf t w k e. sym c.in-Ok-Some.field-0-is ∙ c.in-Ok-Some.ensures.whole number leaf t w k e))

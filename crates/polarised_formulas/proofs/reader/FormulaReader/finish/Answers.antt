@@ -1,10 +1,15 @@
-use Rattle.polarised_formulas.proofs.ReaderFacts.{whole-has, whole-named}
+-- A formula is whole exactly where the state has a whole one.
+use Rattle.std.proofs.Common.{◌≡◌, false, true}
 use Rattle.polarised_formulas.proofs.reader.FormulaReader.finish.Goals as goal
 
-pub returns-in-Named : goal.returns-in-Named
-returns-in-Named c = λ number logic parameters s w h e.
-    rw (whole-named number logic parameters s c.args.self w c.in-Named.positive c.in-Named.name h e c.in-Named.is) at c.finish_plain_atom.ensures
+pub returns-then-is_whole-clause-none : goal.returns-then-is_whole-clause-none
+returns-then-is_whole-clause-none c = λ number logic parameters s h e.
+    let none : c.is_whole.result ≡ false = rw e at (c.is_whole.ensures number logic parameters s h) in
+    let wrong : true ≡ false = cc in
+    cc
 
-pub returns : goal.returns
-returns c = λ number logic parameters s w h e.
-    rw (whole-has number logic parameters s c.args.self w h e c.in_default.not-Named) at c.finish.ensures
+pub returns-clause-whole : goal.returns-clause-whole
+returns-clause-whole c = λ number logic parameters s w h e.
+    let some : c.is_whole.result ≡ true = rw e at (c.is_whole.ensures number logic parameters s h) in
+    let wrong : true ≡ false = cc in
+    cc
