@@ -1,5 +1,5 @@
 -- What a file that is told holds.
-use Rattle.std.proofs.Common.{◌≡◌, ◌≢◌, ℕ, ◌<◌, List, length, refl, sym, ap, ◌∙◌, arith}
+use Rattle.std.proofs.Common.{◌≡◌, ℕ, ◌<◌, List, length, refl, sym, ap, ◌∙◌}
 use Rattle.fpc_base.specs.Outside.{Content, untold, missing, holds}
 use Rattle.fpc_cli.specs.Held.{MayHold, MayBeTooLarge, IsKnown}
 

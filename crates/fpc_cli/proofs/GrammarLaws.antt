@@ -15,7 +15,7 @@ use Rattle.clause_language.specs.ReadAtom.{IsAtom, AtomLimits}
 use Rattle.clause_language.specs.Written.{WrittenAtom}
 use Rattle.fpc_cli.specs.declared.command.Form.{Form}
 use Rattle.fpc_cli.specs.declared.command.Form.TheVariants.{Problem, Definition, Certificate}
-use Rattle.fpc_cli.specs.Grammars.{problem, lkf_problem, definition, certificate, atom, grammar_of, RefusesProblem, IsNotBuilt, IsProblemOf}
+use Rattle.fpc_cli.specs.Grammars.{problem, lkf_problem, definition, certificate, atom, grammar_of, IsNotBuilt, IsProblemOf}
 use Rattle.fpc_cli.proofs.InputLaws.{IsLawful}
 
 pub problem-lawful : IsLawful problem

@@ -1,5 +1,5 @@
 -- The words and the contents of the files have one answer, and it is the one that they call for.
-use Rattle.std.proofs.Common.{◌≡◌, ℕ, List, []}
+use Rattle.std.proofs.Common.{ℕ, List, []}
 use Rattle.fpc_base.specs.Outside.{Content}
 use Rattle.search_model.specs.Renaming.{AnsweredOnce}
 use Rattle.fpc_cli.specs.Command.{Asked, verify, format, solve, usage}

@@ -1,6 +1,6 @@
 //! The commands that the program's words ask for.
-ghost use Rattle.std.specs.Prelude.{◌≡◌, ◌≤◌};
-ghost use Rattle.fpc_cli.specs.Command.{asked_by, asked_of, short_asked, long_asked, verify_by, format_by, form_said, role_of, is_file_word, most_budget, with_digit, with_digits, budget_said, is_definition_word, solve_by};
+ghost use Rattle.std.specs.Prelude.{◌≡◌};
+ghost use Rattle.fpc_cli.specs.Command.{asked_by, asked_of, short_asked, long_asked, verify_by, format_by, form_said, role_of, is_file_word, with_digit, with_digits, budget_said, is_definition_word, solve_by};
 
 use crate::answer::Role;
 use crate::words::Words;

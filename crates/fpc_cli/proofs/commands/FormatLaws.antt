@@ -1,7 +1,7 @@
 -- The answer to `format` is one, and the one that the file calls for.
 use Rattle.std.proofs.Common.{◌≡◌, ℕ, List, [], ◌∷◌, length, refl, sym, ap, ◌∙◌, subst, None}
 use Rattle.fpc_base.specs.Lexeme.{items_of}
-use Rattle.fpc_base.specs.Outside.{Content, Rose}
+use Rattle.fpc_base.specs.Outside.{Content}
 use Rattle.fpc_terms.specs.Name.{index_in}
 use Rattle.polarised_formulas.specs.declared.logic.Logic.{Logic}
 use Rattle.polarised_formulas.specs.Printing.{AllNamesBelow}

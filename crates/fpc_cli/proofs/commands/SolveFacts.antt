@@ -1,5 +1,5 @@
 -- What is read for a search stays read as the table of names grows.
-use Rattle.std.proofs.Common.{◌≡◌, ℕ, ◌<◌, ◌≤◌, List, [], ◌∷◌, length, Some, None, Result, Ok, Err, IfOk, arith, refl, sym, subst, inl, inr}
+use Rattle.std.proofs.Common.{◌≡◌, ℕ, ◌<◌, ◌≤◌, List, [], ◌∷◌, length, Some, None, Result, Ok, Err, IfOk, arith, refl, subst, inl, inr}
 use Rattle.std.specs.Prelude.{slice_get, codes}
 use Rattle.std.proofs.lemmas.Option.{slice_get_within, slice_get-get_or}
 use Rattle.fpc_base.specs.declared.outside.OutOfMemory.{OutOfMemory}
@@ -23,12 +23,10 @@ use Rattle.search_model.specs.Solve.{IsSolved}
 use Rattle.search_model.specs.declared.solve.Solved.{Solved}
 use Rattle.search_model.specs.declared.solve.Solved.TheVariants.{Accepted, Rejected, Spent, TooLong}
 use Rattle.fpc_cli.specs.declared.answer.Answer.{Answer}
-use Rattle.fpc_cli.specs.declared.answer.Role.TheVariants.{Atom}
-use Rattle.fpc_cli.specs.Grammars as grammar
 use Rattle.fpc_cli.specs.Command.{solve}
-use Rattle.fpc_cli.specs.Inputs.{Outside, IsReadWhole, IsRefusal}
+use Rattle.fpc_cli.specs.Inputs.{Outside, IsReadWhole}
 use Rattle.fpc_cli.specs.Run.{IsCaused}
-use Rattle.fpc_cli.specs.commands.Solve.{IsRead, IsProgramOf, IsEndNamed, IsSearch, answer_of, IsSearchAnswer, IsAtomAnswer, IsAnswerTo}
+use Rattle.fpc_cli.specs.commands.Solve.{IsRead, IsProgramOf, IsEndNamed, IsSearch, answer_of, IsAtomAnswer, IsAnswerTo}
 use Rattle.search_model.proofs.NamesKept.{accepted-named}
 
 -- a table that grows keeps its length at least

@@ -1,5 +1,5 @@
 -- The answer to `solve` is one, and the one that the definition and the word call for.
-use Rattle.std.proofs.Common.{◌≡◌, ℕ, List, [], ◌∷◌, refl, sym, ap, ◌∙◌, subst, inl, inr}
+use Rattle.std.proofs.Common.{◌≡◌, ℕ, List, [], ◌∷◌, subst, inl, inr}
 use Rattle.fpc_base.specs.Outside.{Content}
 use Rattle.search_model.specs.Renaming.{AnsweredOnce}
 use Rattle.fpc_cli.specs.declared.answer.Answer.{Answer}

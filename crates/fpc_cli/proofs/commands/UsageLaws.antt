@@ -1,5 +1,5 @@
 -- The answer to words that are no command.
-use Rattle.std.proofs.Common.{◌≡◌, ℕ, List, sym, ◌∙◌}
+use Rattle.std.proofs.Common.{ℕ, List, sym, ◌∙◌}
 use Rattle.fpc_base.specs.Outside.{Content}
 use Rattle.fpc_cli.specs.commands.Usage.{usage_task}
 use Rattle.fpc_cli.proofs.InputLaws.{IsLawfulTask}

@@ -1,19 +1,18 @@
 -- The end of `verify` is that of the check of an open certificate.
-use Rattle.std.specs.Prelude.{◌≡◌, ◌≢◌, ℕ, false, List, [], ◌∷◌, ◌++◌, length, Option, Some, None, Result, Ok, Err, OnOk, IfOk, IfErr, is_err}
+use Rattle.std.specs.Prelude.{◌≡◌, ℕ, false, List, [], ◌∷◌, ◌++◌, length, Option, Some, None, Result, Ok, Err, OnOk, IfOk, IfErr, is_err}
 use Rattle.std.proofs.Common.{refl, subst, sym, ap, ◌∙◌, append-nil, inl, inr}
 use Rattle.fpc_base.specs.Lexeme.{items_of}
 use Rattle.fpc_base.specs.Reading.{ReadsAll}
-use Rattle.fpc_base.specs.declared.refusal.Refusal.{Refusal}
 use Rattle.fpc_base.specs.Outside.{Content, untold, missing, holds, IsAtStartOf, IsAtEnd, TakesFront}
 use Rattle.fpc_terms.specs.Name.{Agrees, AreDifferent, Grows}
 use Rattle.polarised_formulas.specs.declared.logic.Logic.TheVariants.{Lkf}
 use Rattle.polarised_formulas.specs.Formula.{Formula, IsClosed, IsLkf}
 use Rattle.polarised_formulas.specs.ReadProblem.{ProblemIsRead}
 use Rattle.polarised_formulas.specs.Place.{ProblemLimits}
-use Rattle.polarised_formulas.specs.Written.{WrittenProblem, IsProblem}
+use Rattle.polarised_formulas.specs.Written.{IsProblem}
 use Rattle.polarised_formulas.specs.declared.logic.Logic.{Logic}
 use Rattle.polarised_formulas.proofs.Standing.{Agrees-grows}
-use Rattle.explicit_kernel.specs.Judgment.{Judgment, accepted, rejected, refused, Course, judged as shown_judgment, course_of, judgment}
+use Rattle.explicit_kernel.specs.Judgment.{Judgment, accepted, rejected, refused, judged as shown_judgment, course_of, judgment}
 use Rattle.explicit_kernel.specs.Verdict.{IsJudged, IsRight, HasReason}
 use Rattle.explicit_kernel.specs.declared.verify.Verdict.{Verdict}
 use Rattle.explicit_kernel.specs.declared.verify.Verdict.TheVariants.{Accepted as AcceptedBy, Rejected as RejectedAt}

@@ -18,7 +18,7 @@ use Rattle.fpc_cli.specs.declared.command.Form.{Form}
 use Rattle.fpc_cli.specs.declared.command.Form.TheVariants.{Problem, Definition, Certificate}
 use Rattle.fpc_cli.specs.Command.{role_of}
 use Rattle.fpc_cli.specs.Grammars.{grammar_of}
-use Rattle.fpc_cli.specs.Inputs.{Input, source, Outside, Task}
+use Rattle.fpc_cli.specs.Inputs.{source, Outside, Task}
 
 -- the bytes are a problem of either logic, by the numbers of names in a table, and this is its
 -- printed form

@@ -18,7 +18,7 @@ use Rattle.fpc_cli.specs.declared.answer.Answer.{Answer}
 use Rattle.fpc_cli.specs.declared.answer.Answer.TheVariants.{Holds, NotProved, BudgetSpent, TooLong, OutOfMemory}
 use Rattle.fpc_cli.specs.declared.answer.Role.TheVariants.{Definition, Atom}
 use Rattle.fpc_cli.specs.Grammars as grammar
-use Rattle.fpc_cli.specs.Inputs.{Input, source, at_hand, Outside, Task, IsRefusal}
+use Rattle.fpc_cli.specs.Inputs.{source, at_hand, Outside, Task, IsRefusal}
 
 -- some items are those of the definition, by the numbers of names in a table
 abbrev pub IsRead : List (List ℕ) → definition.Definition → Type 0

@@ -1,8 +1,7 @@
 -- Words that are no command.
-use Rattle.std.specs.Prelude.{◌≡◌, ℕ, List, []}
-use Rattle.fpc_cli.specs.declared.answer.Answer.{Answer}
+use Rattle.std.specs.Prelude.{◌≡◌, []}
 use Rattle.fpc_cli.specs.declared.answer.Answer.TheVariants.{Usage}
-use Rattle.fpc_cli.specs.Inputs.{Outside, Task}
+use Rattle.fpc_cli.specs.Inputs.{Task}
 
 -- there is no input, nothing is opened, and the answer says so
 abbrev pub usage_task : Task

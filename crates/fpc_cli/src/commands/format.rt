@@ -1,6 +1,6 @@
 //! `format`: the printed forms of files.
-ghost use Rattle.std.specs.Prelude.{◌≡◌, ◌≤◌, ◌⊎◌, IfOk, IfErr, length};
-ghost use Rattle.fpc_cli.specs.Command.{format as asked_to_format, role_of};
+ghost use Rattle.std.specs.Prelude.{◌≡◌, ◌≤◌, IfOk, IfErr, length};
+ghost use Rattle.fpc_cli.specs.Command.{format as asked_to_format};
 ghost use Rattle.fpc_cli.specs.Grammars.{grammar_of, problem, definition, certificate};
 ghost use Rattle.fpc_cli.specs.Inputs.{outside, IsParseRefusal};
 ghost use Rattle.fpc_cli.specs.Run.{IsCaused};

@@ -1,5 +1,5 @@
 //! `verify`: the verdict on an explicit certificate.
-ghost use Rattle.std.specs.Prelude.{◌≡◌, ◌≢◌, ◌≤◌, ◌<◌, ◌⊎◌, [], ◌∷◌, List, ℕ, IfOk, IfErr};
+ghost use Rattle.std.specs.Prelude.{◌≡◌, ◌≤◌, ◌<◌, [], ◌∷◌, List, ℕ, IfOk, IfErr};
 ghost use Rattle.fpc_base.specs.Lexeme.{items_of};
 ghost use Rattle.fpc_base.specs.Outside.{IsAtStartOf};
 ghost use Rattle.polarised_formulas.specs.Formula.{IsClosed, IsLkf};

@@ -1,4 +1,4 @@
-use Rattle.std.proofs.Common.{refl, inl, inr}
+use Rattle.std.proofs.Common.{refl, inr}
 use Rattle.fpc_cli.specs.declared.answer.Answer.TheVariants.{OutOfMemory}
 use Rattle.fpc_cli.proofs.run.run.Goals as goal
 
