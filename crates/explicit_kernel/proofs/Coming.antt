@@ -20,7 +20,8 @@ use Rattle.explicit_form.specs.StepLimits.{most_bytes, state_limit, told_at, byt
 use Rattle.explicit_form.specs.Feeding.{HasRead, IsFed, done_of, is_whole}
 use Rattle.explicit_form.proofs.Forward.{run-append}
 use Rattle.explicit_form.proofs.Refusals.{word_ends, untold-going}
-use Rattle.explicit_kernel.specs.Judgment.{Judgment, rejected, going, judged, closing, playing, fitting, course, course_of, begin}
+use Rattle.lkf_rules.specs.Lkf.{lkf}
+use Rattle.explicit_kernel.specs.JudgmentIn.{Judgment, rejected, going, judged, closing, playing, fitting, course, course_of, begin}
 use Rattle.explicit_kernel.specs.Pending.{AreLow}
 use Rattle.explicit_kernel.specs.Progress.{Follows, IsUnfit}
 use Rattle.explicit_kernel.specs.Check.{HasCome, IsStopped, IsFollowed, Ends, stop_of}
@@ -33,10 +34,10 @@ use Rattle.explicit_form.specs.declared.step_reader.StepFault.{StepFault}
 use Rattle.explicit_kernel.proofs.Courses.{played-plays, played-none, course-append, course-stays, IsOpen, closing-open, Leads, line-leads, line-refused, nothing-behind}
 
 -- a step that was played leads on
-fitting-follows : (number : List ℕ → ℕ) (at : ℕ) (st : State) (o : Option Step) (old new : play.Play) → Follows o old new → IsOpen number st new.pending → fitting at st o old.pending old.fitted ≡ going st new.pending new.fitted
-fitting-follows number at st None old new (e, f) h = rw (e, f) (closing-open number at st old.pending old.fitted (subst (IsOpen number st) e h))
+fitting-follows : (number : List ℕ → ℕ) (at : ℕ) (st : State) (o : Option Step) (old new : play.Play) → Follows o old new → IsOpen lkf number st new.pending → fitting lkf at st o old.pending old.fitted ≡ going st new.pending new.fitted
+fitting-follows number at st None old new (e, f) h = rw (e, f) (closing-open lkf number at st old.pending old.fitted (subst (IsOpen lkf number st) e h))
 fitting-follows number at st (Some step) old new (one, f) h =
-    ap (λ o. playing at st o old.fitted) (played-plays old.pending new.pending step one) ∙ closing-open number at st new.pending (suc old.fitted) h ∙ ap (going st new.pending) (sym (add-one old.fitted) ∙ sym f)
+    ap (λ o. playing at st o old.fitted) (played-plays lkf old.pending new.pending step one) ∙ closing-open lkf number at st new.pending (suc old.fitted) h ∙ ap (going st new.pending) (sym (add-one old.fitted) ∙ sym f)
 
 -- at most one step is counted
 follows-few : (o : Option Step) (old new : play.Play) → Follows o old new → new.fitted ≤ old.fitted + 1
@@ -44,19 +45,19 @@ follows-few None old new (e, f) = omega (arith, f)
 follows-few (Some step) old new (one, f) = omega (arith, f)
 
 -- one that does not fit is rejected
-fitting-unfit : (at : ℕ) (st : State) (o : Option Step) (old : play.Play) → IsUnfit o old → fitting at st o old.pending old.fitted ≡ judged (rejected (suc old.fitted) at)
+fitting-unfit : (at : ℕ) (st : State) (o : Option Step) (old : play.Play) → IsUnfit o old → fitting lkf at st o old.pending old.fitted ≡ judged (rejected (suc old.fitted) at)
 fitting-unfit at st None old h = absurd h
-fitting-unfit at st (Some step) old h = ap (λ o. playing at st o old.fitted) (played-none old.pending step h)
+fitting-unfit at st (Some step) old h = ap (λ o. playing at st o old.fitted) (played-none lkf old.pending step h)
 
 closing-left : (at : ℕ) (st : State) (q : List Levelled) (n : ℕ) → q ≢ [] → is_whole st ≡ true → closing at st q n ≡ judged (rejected (suc n) at)
 closing-left at st [] n some w = absurd (some refl)
 closing-left at st (p ∷ q) n some w = ap (λ c. if c then judged (rejected (suc n) at) else going st (p ∷ q) n) w
 
 -- the step that is missing behind the last line is rejected
-fitting-left : (at : ℕ) (st : State) (o : Option Step) (old new : play.Play) → Follows o old new → new.pending ≢ [] → is_whole st ≡ true → fitting at st o old.pending old.fitted ≡ judged (rejected (suc new.fitted) at)
+fitting-left : (at : ℕ) (st : State) (o : Option Step) (old new : play.Play) → Follows o old new → new.pending ≢ [] → is_whole st ≡ true → fitting lkf at st o old.pending old.fitted ≡ judged (rejected (suc new.fitted) at)
 fitting-left at st None old new (e, f) some w = closing-left at st old.pending old.fitted (λ z. some (e ∙ z)) w ∙ ap (λ n. judged (rejected (suc n) at)) (sym f)
 fitting-left at st (Some step) old new (one, f) some w =
-    ap (λ o. playing at st o old.fitted) (played-plays old.pending new.pending step one) ∙ closing-left at st new.pending (suc old.fitted) some w ∙ ap (λ n. judged (rejected (suc n) at)) (sym (add-one old.fitted) ∙ sym f)
+    ap (λ o. playing at st o old.fitted) (played-plays lkf old.pending new.pending step one) ∙ closing-left at st new.pending (suc old.fitted) some w ∙ ap (λ n. judged (rejected (suc n) at)) (sym (add-one old.fitted) ∙ sym f)
 
 module _ (number : List ℕ → ℕ) where
   -- nothing is told of bytes behind others
@@ -85,7 +86,7 @@ module _ (number : List ℕ → ℕ) where
   open-before bytes st place some h = by (is_whole st) refl
     where
       by : (c : Bool) → is_whole st ≡ c → c ≡ false
-      by true w = let e = ap length (nothing-behind number st place bytes w h) in let no : ⊥ = omega (arith, e) in absurd no
+      by true w = let e = ap length (nothing-behind lkf number st place bytes w h) in let no : ⊥ = omega (arith, e) in absurd no
       by false w = refl
 
   -- a refusal lies at its byte, but for the word of the other calculus, which lies two bytes before
@@ -113,25 +114,25 @@ module _ (number : List ℕ → ℕ) where
 
 module _ (known names : List (List ℕ)) (goal : Formula) (before bytes : List ℕ) (old mid new : check.Check) (come : HasCome known goal before old) (grows : Grows known names) (same : mid.play ≡ old.play) where
   -- what bytes behind the earlier ones show
-  here : (number : List ℕ → ℕ) → Agrees number names → (more : List ℕ) → course_of number goal (before ++ more) ≡ course number (length before) (going (run number Lkf start before) mid.play.pending mid.play.fitted) more
+  here : (number : List ℕ → ℕ) → Agrees number names → (more : List ℕ) → course_of lkf number goal (before ++ more) ≡ course lkf number (length before) (going (run number Lkf start before) mid.play.pending mid.play.fitted) more
   here number agrees more =
-      course-append number before more 0 (begin goal)
-      ∙ ap (λ c. course number (0 + length before) c more) (come.course number (Agrees-grows known names number grows agrees))
-      ∙ ap (λ n. course number n (going (run number Lkf start before) old.play.pending old.play.fitted) more) (zero-add (length before))
-      ∙ ap (λ p. course number (length before) (going (run number Lkf start before) p.pending p.fitted) more) (sym same)
+      course-append lkf number before more 0 (begin lkf goal)
+      ∙ ap (λ c. course lkf number (0 + length before) c more) (come.course number (Agrees-grows known names number grows agrees))
+      ∙ ap (λ n. course lkf number n (going (run number Lkf start before) old.play.pending old.play.fitted) more) (zero-add (length before))
+      ∙ ap (λ p. course lkf number (length before) (going (run number Lkf start before) p.pending p.fitted) more) (sym same)
 
   module _ (n : ℕ) (fed : IsFed Lkf names before bytes (Ok n) mid.reader) (moves : 0 < n) (within : n ≤ length bytes) where
-    line : (number : List ℕ → ℕ) → Agrees number names → Leads number (length before) (course_of number goal (before ++ take n bytes)) (run number Lkf start (before ++ take n bytes)) mid.reader.step mid.play.pending mid.play.fitted
+    line : (number : List ℕ → ℕ) → Agrees number names → Leads lkf number (length before) (course_of lkf number goal (before ++ take n bytes)) (run number Lkf start (before ++ take n bytes)) mid.reader.step mid.play.pending mid.play.fitted
     line number agrees =
         let ran = run-append number Lkf start before (take n bytes) in
         let untold : AreUntold number Lkf (run number Lkf start before) (length before) (take n bytes) =
         subst (λ m. AreUntold number Lkf (run number Lkf start before) m (take n bytes)) (zero-add (length before)) (untold-behind number before (take n bytes) start 0 (fed.0.untold number agrees))
         in
         let some : 0 < length (take n bytes) = (let l = length-take-le n bytes within in omega (arith, l)) in
-        let leads = line-leads number (take n bytes) (run number Lkf start before) (length before) mid.play.pending mid.play.fitted mid.reader.step
+        let leads = line-leads lkf number (take n bytes) (run number Lkf start before) (length before) mid.play.pending mid.play.fitted mid.reader.step
         (open-before number (take n bytes) (run number Lkf start before) (length before) some untold) untold (ap done_of (sym ran) ∙ fed.1 number agrees)
         in
-        (leads.0, (leads.1.0, here number agrees (take n bytes) ∙ leads.1.1 ∙ ap (λ st. fitting leads.0 st mid.reader.step mid.play.pending mid.play.fitted) (sym ran)))
+        (leads.0, (leads.1.0, here number agrees (take n bytes) ∙ leads.1.1 ∙ ap (λ st. fitting lkf leads.0 st mid.reader.step mid.play.pending mid.play.fitted) (sym ran)))
 
     -- the check goes on behind the line
     pub come-on : AreDifferent names → HasRead Lkf names (before ++ take n bytes) new.reader → IsFollowed mid new (Ok tt) → AreLow new.play.fitted new.play.pending → HasCome names goal (before ++ take n bytes) new
@@ -147,7 +148,7 @@ module _ (known names : List (List ℕ)) (goal : Formula) (before bytes : List �
           let s = untold-short number (before ++ take n bytes) start 0 (fed.0.untold number (Agrees-number_in (length names) names differ)) (omega arith) in omega (arith, s);
     }
       where
-        open_end : (number : List ℕ → ℕ) → Agrees number names → (new.play.pending ≡ []) ⊎ Ends false new.reader → IsOpen number (run number Lkf start (before ++ take n bytes)) new.play.pending
+        open_end : (number : List ℕ → ℕ) → Agrees number names → (new.play.pending ≡ []) ⊎ Ends false new.reader → IsOpen lkf number (run number Lkf start (before ++ take n bytes)) new.play.pending
         open_end number agrees (inl e) = inl e
         open_end number agrees (inr e) = inr (e names (before ++ take n bytes) number read agrees)
 
@@ -163,12 +164,12 @@ module _ (known names : List (List ℕ)) (goal : Formula) (before bytes : List �
         whole : before ++ bytes ≡ (before ++ take n bytes) ++ drop n bytes
         whole = ap (λ bs. before ++ bs) (sym (take-append-drop n bytes)) ∙ sym (append_assoc before (take n bytes) (drop n bytes))
 
-        shown : (number : List ℕ → ℕ) (j : Judgment) → course_of number goal (before ++ take n bytes) ≡ judged j → course_of number goal (before ++ bytes) ≡ judged j
-        shown number j e = ap (course_of number goal) whole ∙ course-stays number (before ++ take n bytes) (drop n bytes) 0 (begin goal) j e
+        shown : (number : List ℕ → ℕ) (j : Judgment) → course_of lkf number goal (before ++ take n bytes) ≡ judged j → course_of lkf number goal (before ++ bytes) ≡ judged j
+        shown number j e = ap (course_of lkf number goal) whole ∙ course-stays lkf number (before ++ take n bytes) (drop n bytes) 0 (begin lkf goal) j e
 
-        by : (number : List ℕ → ℕ) → Agrees number names → Leads number (length before) (course_of number goal (before ++ take n bytes)) (st number) mid.reader.step mid.play.pending mid.play.fitted
+        by : (number : List ℕ → ℕ) → Agrees number names → Leads lkf number (length before) (course_of lkf number goal (before ++ take n bytes)) (st number) mid.reader.step mid.play.pending mid.play.fitted
             → (IsUnfit mid.reader.step mid.play × (new.play.fitted ≡ mid.play.fitted)) ⊎ (Follows mid.reader.step mid.play new.play × (new.play.pending ≢ []) × Ends true new.reader)
-            → (place : ℕ) × ((course_of number goal (before ++ bytes) ≡ judged (rejected k place)) × (length before ≤ place))
+            → (place : ℕ) × ((course_of lkf number goal (before ++ bytes) ≡ judged (rejected k place)) × (length before ≤ place))
         by number agrees leads (inl (unfit, f)) =
             let e : suc mid.play.fitted ≡ k = omega (arith, is, f) in
             (leads.0, (shown number (rejected k leads.0) (leads.1.1 ∙ fitting-unfit leads.0 (st number) mid.reader.step mid.play unfit ∙ ap (λ m. judged (rejected m leads.0)) e), leads.1.0))
@@ -192,7 +193,7 @@ module _ (known names : List (List ℕ)) (goal : Formula) (before bytes : List �
       (subst (λ s. fault (length (before ++ told.front)) s (go number Lkf s told.byte) ≡ Some x) (sym ran) (subst (λ n. fault n (run number Lkf st told.front) (go number Lkf (run number Lkf st told.front) told.byte) ≡ Some x) (sym long) told.told))
       in (
         here number agrees bytes
-            ∙ line-refused number bytes told.front told.byte told.more st (length before) mid.play.pending mid.play.fitted x told.parts told.untold told.told,
+            ∙ line-refused lkf number bytes told.front told.byte told.more st (length before) mid.play.pending mid.play.fitted x told.parts told.untold told.told,
         omega (arith, place, long),
       )
 

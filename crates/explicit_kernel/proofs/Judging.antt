@@ -17,7 +17,9 @@ use Rattle.explicit_form.specs.Feeding.{IsFinished}
 use Rattle.explicit_form.specs.declared.step_reader.StepFault.{StepFault}
 use Rattle.explicit_form.specs.declared.step_reader.StepFault.TheVariants.{Refused as ReaderRefused, OutOfMemory as ReaderNoMemory}
 use Rattle.explicit_form.proofs.Refusals.{untold-outcome}
-use Rattle.explicit_kernel.specs.Judgment.{accepted, rejected, refused, going, judged, at_end, course_of, judgment}
+use Rattle.lkf_rules.specs.Lkf.{lkf}
+use Rattle.lkf_rules.proofs.Sound.{lkf_is_lawful}
+use Rattle.explicit_kernel.specs.JudgmentIn.{accepted, rejected, refused, going, judged, at_end, course_of, judgment}
 use Rattle.explicit_kernel.specs.Check.{HasCome, IsStopped, IsFinal, stop_of, IsAnswerTo}
 use Rattle.explicit_kernel.specs.Verdict.{IsJudged, IsRight}
 use Rattle.explicit_kernel.proofs.JudgmentLaws.{accepted_is_spelled}
@@ -35,11 +37,11 @@ module _ (names : List (List ℕ)) (goal : Formula) (bytes : List ℕ) (c : chec
       ap (outcome number Lkf start 0) (sym (append-nil bytes)) ∙ untold-outcome number Lkf bytes [] start 0 (come.read.untold number agrees)
       ∙ ap (λ n. outcome_at_end n (run number Lkf start bytes)) (zero-add (length bytes))
 
-  ends-so : (number : List ℕ → ℕ) → Agrees number names → judgment number goal bytes ≡ at_end (length bytes) (going (run number Lkf start bytes) c.play.pending c.play.fitted)
+  ends-so : (number : List ℕ → ℕ) → Agrees number names → judgment lkf number goal bytes ≡ at_end (length bytes) (going (run number Lkf start bytes) c.play.pending c.play.fitted)
   ends-so number agrees = ap (at_end (length bytes)) (come.course number agrees)
 
   -- a whole certificate is accepted
-  pub accepted-at-end : (number : List ℕ → ℕ) → Agrees number names → IsFinished number Lkf bytes (Ok tt) → judgment number goal bytes ≡ accepted c.play.fitted
+  pub accepted-at-end : (number : List ℕ → ℕ) → Agrees number names → IsFinished number Lkf bytes (Ok tt) → judgment lkf number goal bytes ≡ accepted c.play.fitted
   accepted-at-end number agrees h = ends-so number agrees ∙ by (run number Lkf start bytes) (sym (end-of number agrees) ∙ h)
     where
       by : {o : _} (st : State) → outcome_at_end (length bytes) st ≡ read o → at_end (length bytes) (going st c.play.pending c.play.fitted) ≡ accepted c.play.fitted
@@ -49,7 +51,7 @@ module _ (names : List (List ℕ)) (goal : Formula) (bytes : List ℕ) (c : chec
       by mistaken e = cc
       by stuck e = cc
 
-  unfinished : (number : List ℕ → ℕ) → Agrees number names → (x : Refusal) → IsFinished number Lkf bytes (Err (ReaderRefused x)) → (x ≡ record { code = Unexpected; at = length bytes }) × (judgment number goal bytes ≡ refused x c.play.fitted)
+  unfinished : (number : List ℕ → ℕ) → Agrees number names → (x : Refusal) → IsFinished number Lkf bytes (Err (ReaderRefused x)) → (x ≡ record { code = Unexpected; at = length bytes }) × (judgment lkf number goal bytes ≡ refused x c.play.fitted)
   unfinished number agrees x h = let p = by (run number Lkf start bytes) (sym (end-of number agrees) ∙ h) in (p.0, ends-so number agrees ∙ p.1)
     where
       of : (st : State) → at_end (length bytes) (going st c.play.pending c.play.fitted) ≡ refused (record { code = Unexpected; at = length bytes }) c.play.fitted → outcome_refused (record { code = Unexpected; at = length bytes }) ≡ outcome_refused x
@@ -73,8 +75,8 @@ module _ (names : List (List ℕ)) (goal : Formula) (bytes : List ℕ) (c : chec
 
 -- what is shown behind more bytes is shown behind fewer
 pub stopped-from : (names : List (List ℕ)) (goal : Formula) (least less : ℕ) (bytes more : List ℕ) (c : check.Check) (stop : Stop) → less ≤ least → bytes ≡ more → IsStopped names goal least bytes c stop → IsStopped names goal less more c stop
-stopped-from names goal least less bytes more c (Rejected k) low e (f, h) = (f, λ number agrees. let r = h number agrees in (r.0, (subst (λ bs. course_of number goal bs ≡ judged (rejected k r.0)) e r.1.0, (let l = r.1.1 in omega (arith, low, l)))))
-stopped-from names goal least less bytes more c (Refused x) low e h = λ number agrees. let r = h number agrees in (subst (λ bs. course_of number goal bs ≡ judged (refused x c.play.fitted)) e r.0, (let l = r.1 in omega (arith, low, l)))
+stopped-from names goal least less bytes more c (Rejected k) low e (f, h) = (f, λ number agrees. let r = h number agrees in (r.0, (subst (λ bs. course_of lkf number goal bs ≡ judged (rejected k r.0)) e r.1.0, (let l = r.1.1 in omega (arith, low, l)))))
+stopped-from names goal least less bytes more c (Refused x) low e h = λ number agrees. let r = h number agrees in (subst (λ bs. course_of lkf number goal bs ≡ judged (refused x c.play.fitted)) e r.0, (let l = r.1 in omega (arith, low, l)))
 stopped-from names goal least less bytes more c OutOfMemory low e h = tt
 
 -- the rest of a piece behind some of its bytes
@@ -154,7 +156,7 @@ right-of names goal old new before now (Ok (Accepted n)) differ closed h =
     let number = number_in least names in
     let low : length names ≤ least = omega arith in
     let shown = h.shown number (Agrees-number_in least names differ) in
-    let a = (accepted_is_spelled (text_in least names) number (GivesBack-number_in least names low) goal closed h.bytes n).0 shown.0 in
+    let a = (accepted_is_spelled lkf lkf_is_lawful (text_in least names) number (GivesBack-number_in least names low) goal closed h.bytes n).0 shown.0 in
     ((a.steps, a.spelling, a.count), a.spelling.derivation)
 right-of names goal old new before now (Ok (RejectedAt k)) differ closed h = tt
 right-of names goal old new before now (Err e) differ closed h = tt

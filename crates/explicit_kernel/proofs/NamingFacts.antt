@@ -8,7 +8,8 @@ use Rattle.lkf_rules.specs.declared.rules.outcome.StepRefusal.TheVariants.{DoesN
 use Rattle.lkf_rules.specs.Sequent.{Sequent, up, Levelled}
 use Rattle.lkf_rules.specs.Premises.{worked, chosen}
 use Rattle.lkf_rules.specs.Effect.{Tells, TellsTo}
-use Rattle.lkf_rules.proofs.Play.{PlaysOne-premises, PlaysOne-stuck}
+use Rattle.polarised_formulas.proofs.Calculus.Play.{PlaysOne-premises, PlaysOne-stuck}
+use Rattle.lkf_rules.specs.Lkf.{lkf}
 use Rattle.explicit_kernel.specs.declared.shared.Cell.{Cell}
 use Rattle.explicit_kernel.specs.declared.shared.Task.{Task}
 use Rattle.explicit_kernel.specs.declared.shared.Task.TheVariants.{Work}
@@ -41,8 +42,8 @@ tells-first step r n s cs task i k c is z low stands h =
     rw (is, z, chain-stands cs k c low stands) (tells-worked step r n s (chain cs c.next) c.formula (h s (chain cs c.next)))
 
 names-next : (step : Step) (r : Result Effect StepRefusal) (n : ℕ) (c : Sequent) (q : List Levelled) → TellsAt step r (n, c) → Names step r ((n, c) ∷ q)
-names-next step (Ok e) n c q h = PlaysOne-premises n c step (premises_at e (n, c)) q h
-names-next step (Err DoesNotFit) n c q h = λ r one. PlaysOne-stuck n c step q r h one
+names-next step (Ok e) n c q h = PlaysOne-premises lkf n c step (premises_at e (n, c)) q h
+names-next step (Err DoesNotFit) n c q h = λ r one. PlaysOne-stuck lkf n c step q r h one
 names-next step (Err OutOfMemory) n c q h = tt
 
 -- what is told of the next sequent is told of all

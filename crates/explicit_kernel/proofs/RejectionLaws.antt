@@ -6,13 +6,14 @@ use Rattle.std.proofs.lemmas.List.{length-append, same_from_push}
 use Rattle.fpc_base.specs.declared.refusal.Code.TheVariants.{Unexpected}
 use Rattle.fpc_base.specs.declared.refusal.Refusal.{Refusal}
 use Rattle.fpc_base.specs.Tokens.{is_in_line}
+use Rattle.polarised_formulas.specs.declared.logic.Logic.{Logic}
 use Rattle.polarised_formulas.specs.declared.logic.Logic.TheVariants.{Lkf, Ljf}
 use Rattle.polarised_formulas.specs.declared.step.Step.{Step}
 use Rattle.polarised_formulas.specs.Formula.{Formula}
-use Rattle.lkf_rules.specs.Sequent.{Levelled}
-use Rattle.lkf_rules.specs.Play.{Plays, start_of}
+use Rattle.polarised_formulas.specs.Calculus.Rules.{RuleCalculus, LevelledIn}
+use Rattle.polarised_formulas.specs.Calculus.Play.{Plays, start_of}
 use Rattle.explicit_form.specs.StepText.{header_word, BeginsCertificate}
-use Rattle.explicit_form.specs.StepReading.{Next, on, whole, last, wrong, next, State, heading, reading, ended, mistaken, stuck, start, settle, go, run, steps_of}
+use Rattle.explicit_form.specs.StepReading.{Next, on, whole, last, wrong, next, State, heading, reading, ended, mistaken, stuck, start, settle, go, run, steps_of, other}
 use Rattle.explicit_form.specs.StepLaws.{IsGoing, BeginsHeader, EndsAt}
 use Rattle.explicit_form.specs.StepLimits.{fault, AreUntold}
 use Rattle.explicit_form.specs.Feeding.{step_of, step_with, is_whole}
@@ -21,7 +22,7 @@ use Rattle.explicit_form.proofs.Forward.{run-append}
 use Rattle.explicit_form.proofs.LineEnds.{line_ends}
 use Rattle.explicit_form.proofs.Taking.{step_with-none, is_whole-none, is_whole-step}
 use Rattle.explicit_form.proofs.Refusals.{untold-go, untold-more, untold-going}
-use Rattle.explicit_kernel.specs.Judgment.{accepted, rejected, refused, Course, going, judged, closing, playing, fitting, judging, advance, course_of, at_end, judgment}
+use Rattle.explicit_kernel.specs.JudgmentIn.{accepted, rejected, refused, Course, going, judged, closing, playing, fitting, judging, advance, course_of, at_end, judgment}
 use Rattle.explicit_kernel.specs.JudgmentLaws.{WhyRejected, unfit, unfinished, IsRejectedAt, RejectedAtLine, RejectedBegins}
 use Rattle.explicit_kernel.proofs.Courses.{played-none, nothing-behind}
 use Rattle.explicit_kernel.proofs.Standing.{apart, Stands, Turn, goes, tells, misses, leaves, Shows, still, here, shows, stands-still, judged-at, steps-none, steps-some, untold-parts, untold-front}
@@ -33,27 +34,27 @@ not_inside e = cc
 no_steps : (steps : List Step) (s : Step) → steps ++ s ∷ [] ≡ [] → ⊥
 no_steps steps s e = let l = ap length e in let a = length-append steps (s ∷ []) in omega (arith, l, a)
 
-module _ (number : List ℕ → ℕ) where
+module _ (C : RuleCalculus) (number : List ℕ → ℕ) where
   -- the line of a step ends with the byte 10
-  step-ten : (st : State) (b : ℕ) (s : Step) → step_with number Lkf st b ≡ Some s → b ≡ 10
+  step-ten : (st : State) (b : ℕ) (s : Step) → step_with number C.logic st b ≡ Some s → b ≡ 10
   step-ten st b s w = by (nat_eq b 10) refl
     where
       by : (c : Bool) → nat_eq b 10 ≡ c → b ≡ 10
       by true t = grind (arith, nat_tests)
-      by false t = let none = step_with-none number Lkf st b t in let no : ⊥ = cc (w, none) in absurd no
+      by false t = let none = step_with-none number C.logic st b t in let no : ⊥ = cc (w, none) in absurd no
 
   -- so does the last line
-  whole-ten : (st : State) (b : ℕ) → is_whole (go number Lkf st b) ≡ true → b ≡ 10
+  whole-ten : (st : State) (b : ℕ) → is_whole (go number C.logic st b) ≡ true → b ≡ 10
   whole-ten st b w = by (nat_eq b 10) refl
     where
       by : (c : Bool) → nat_eq b 10 ≡ c → b ≡ 10
       by true t = grind (arith, nat_tests)
-      by false t = absurd (apart (is_whole (go number Lkf st b)) (is_whole-none number Lkf st b t) w)
+      by false t = absurd (apart (is_whole (go number C.logic st b)) (is_whole-none number C.logic st b t) w)
 
   -- a line end behind steps ends the line of a step, or the last one
-  ends-step : (st : State) → IsGoing (go number Lkf st 10) → is_whole (go number Lkf st 10) ≡ false → step_with number Lkf st 10 ≡ None → steps_of st ≡ []
+  ends-step : (st : State) → IsGoing (go number C.logic st 10) → is_whole (go number C.logic st 10) ≡ false → step_with number C.logic st 10 ≡ None → steps_of st ≡ []
   ends-step (heading v) h w e = refl
-  ends-step (reading done l) h w e = absurd (by (next number Lkf l 10) (line_ends number Lkf l 10) h w e)
+  ends-step (reading done l) h w e = absurd (by (next number C.logic l 10) (line_ends number C.logic l 10) h w e)
     where
       by : (n : Next) → EndsAt 10 n → IsGoing (settle done n) → is_whole (settle done n) ≡ false → step_of n ≡ None → ⊥
       by (on m) ends h w e = not_inside ends
@@ -65,27 +66,27 @@ module _ (number : List ℕ → ℕ) where
   ends-step stuck h w e = absurd h
 
   -- the last of the steps is that of the line
-  last-step : (place : ℕ) (st : State) (steps : List Step) (s : Step) → fault place st (go number Lkf st 10) ≡ None → is_whole (go number Lkf st 10) ≡ false → steps_of (go number Lkf st 10) ≡ steps ++ s ∷ []
-      → (step_with number Lkf st 10 ≡ Some s) × (steps_of st ≡ steps)
-  last-step place st steps s e w h = by (step_with number Lkf st 10) refl
+  last-step : (place : ℕ) (st : State) (steps : List Step) (s : Step) → fault place st (go number C.logic st 10) ≡ None → is_whole (go number C.logic st 10) ≡ false → steps_of (go number C.logic st 10) ≡ steps ++ s ∷ []
+      → (step_with number C.logic st 10 ≡ Some s) × (steps_of st ≡ steps)
+  last-step place st steps s e w h = by (step_with number C.logic st 10) refl
     where
-      by : (o : Option Step) → step_with number Lkf st 10 ≡ o → (step_with number Lkf st 10 ≡ Some s) × (steps_of st ≡ steps)
+      by : (o : Option Step) → step_with number C.logic st 10 ≡ o → (step_with number C.logic st 10 ≡ Some s) × (steps_of st ≡ steps)
       by (Some t) f =
-          let same = same_from_push (steps_of st) steps t s (sym (steps-some number place st 10 t e f) ∙ h) in (f ∙ ap Some same.1, same.0)
+          let same = same_from_push (steps_of st) steps t s (sym (steps-some C number place st 10 t e f) ∙ h) in (f ∙ ap Some same.1, same.0)
       by None f =
-          let none : steps_of st ≡ [] = ends-step st (untold-go number Lkf place st (go number Lkf st 10) e) w f in
-          absurd (no_steps steps s (sym h ∙ steps-none number place st 10 e f ∙ none))
+          let none : steps_of st ≡ [] = ends-step st (untold-go number C.logic place st (go number C.logic st 10) e) w f in
+          absurd (no_steps steps s (sym h ∙ steps-none C number place st 10 e f ∙ none))
 
   -- the last line is that of no step
-  last-line : (st : State) (b : ℕ) → is_whole (go number Lkf st b) ≡ true → step_with number Lkf st b ≡ None
-  last-line st b w = by (step_with number Lkf st b) refl
+  last-line : (st : State) (b : ℕ) → is_whole (go number C.logic st b) ≡ true → step_with number C.logic st b ≡ None
+  last-line st b w = by (step_with number C.logic st b) refl
     where
-      by : (o : Option Step) → step_with number Lkf st b ≡ o → step_with number Lkf st b ≡ None
+      by : (o : Option Step) → step_with number C.logic st b ≡ o → step_with number C.logic st b ≡ None
       by None f = f
-      by (Some s) f = absurd (apart (is_whole (go number Lkf st b)) (is_whole-step number Lkf st b s f) w)
+      by (Some s) f = absurd (apart (is_whole (go number C.logic st b)) (is_whole-step number C.logic st b s f) w)
 
 -- a sequent left behind the last line
-left-behind : (place : ℕ) (st : State) (q : List Levelled) (n : ℕ) → is_whole st ≡ true → q ≢ [] → closing place st q n ≡ judged (rejected (suc n) place)
+left-behind : {S : Type 0} (place : ℕ) (st : State) (q : List (ℕ × S)) (n : ℕ) → is_whole st ≡ true → q ≢ [] → closing place st q n ≡ judged (rejected (suc n) place)
 left-behind place st [] n w h = absurd (h refl)
 left-behind place st (p ∷ q) n w h = ap (λ c. if c then judged (rejected (suc n) place) else going st (p ∷ q) n) w
 
@@ -93,28 +94,28 @@ at-end-open : (c : Bool) (m k place : ℕ) (r : Refusal) → (if c then accepted
 at-end-open true m k place r e = cc
 at-end-open false m k place r e = cc
 
-module _ (number : List ℕ → ℕ) (goal : Formula) (bytes : List ℕ) (k place : ℕ) where
+module _ (C : RuleCalculus) (number : List ℕ → ℕ) (goal : Formula) (bytes : List ℕ) (k place : ℕ) where
   -- the byte at which a line is rejected is its end
-  turn-ten : (at : ℕ) (st : State) (q : List Levelled) (m b : ℕ) (c : Course) → Turn number goal at st q m b c → c ≡ judged (rejected k place) → b ≡ 10
+  turn-ten : (at : ℕ) (st : State) (q : List (LevelledIn C)) (m b : ℕ) (c : Course C.SequentOf) → Turn C number goal at st q m b c → c ≡ judged (rejected k place) → b ≡ 10
   turn-ten at st q m b _ (goes r l e a) f = let no : ⊥ = cc in absurd no
   turn-ten at st q m b _ (tells x e) f = let no : ⊥ = cc in absurd no
-  turn-ten at st q m b _ (misses s e w never) f = step-ten number st b s w
-  turn-ten at st q m b _ (leaves e w ends open_list) f = whole-ten number st b ends
+  turn-ten at st q m b _ (misses s e w never) f = step-ten C number st b s w
+  turn-ten at st q m b _ (leaves e w ends open_list) f = whole-ten C number st b ends
 
-  at-line-end : (front more : List ℕ) (q : List Levelled) (m : ℕ) (c : Course) → front ++ 10 ∷ more ≡ bytes → AreUntold number Lkf start 0 front → Stands goal (run number Lkf start front) q m
-      → Turn number goal (length front) (run number Lkf start front) q m 10 c → c ≡ judged (rejected k place) → IsRejectedAt number goal bytes k place
+  at-line-end : (front more : List ℕ) (q : List (LevelledIn C)) (m : ℕ) (c : Course C.SequentOf) → front ++ 10 ∷ more ≡ bytes → AreUntold number C.logic start 0 front → Stands C goal (run number C.logic start front) q m
+      → Turn C number goal (length front) (run number C.logic start front) q m 10 c → c ≡ judged (rejected k place) → IsRejectedAt C number goal bytes k place
   at-line-end front more q m c parts u h t f = by c t f
     where
       st : State
-      st = run number Lkf start front
+      st = run number C.logic start front
 
       after : State
-      after = go number Lkf st 10
+      after = go number C.logic st 10
 
-      same : run number Lkf start (front ++ 10 ∷ []) ≡ after
-      same = run-append number Lkf start front (10 ∷ [])
+      same : run number C.logic start (front ++ 10 ∷ []) ≡ after
+      same = run-append number C.logic start front (10 ∷ [])
 
-      rejecting : fault (length front) st after ≡ None → suc m ≡ k → length front ≡ place → WhyRejected after (steps_of st) q → IsRejectedAt number goal bytes k place
+      rejecting : fault (length front) st after ≡ None → suc m ≡ k → length front ≡ place → WhyRejected C after (steps_of st) q → IsRejectedAt C number goal bytes k place
       rejecting e count ends why =
           let zero : length front ≡ 0 + length front = omega arith in
           record {
@@ -122,71 +123,71 @@ module _ (number : List ℕ → ℕ) (goal : Formula) (bytes : List ℕ) (k plac
             rest = more;
             parts = parts;
             ends_at = ends;
-            untold = untold-more number Lkf front start 0 10 u (subst (λ p. fault p st after ≡ None) zero e);
+            untold = untold-more number C.logic front start 0 10 u (subst (λ p. fault p st after ≡ None) zero e);
             steps = steps_of st;
             pending = q;
             plays_to = h.plays_to;
             count = ap suc h.count ∙ count;
-            why = subst (λ v. WhyRejected v (steps_of st) q) (sym same) why;
+            why = subst (λ v. WhyRejected C v (steps_of st) q) (sym same) why;
           }
 
-      by : (c : Course) → Turn number goal (length front) st q m 10 c → c ≡ judged (rejected k place) → IsRejectedAt number goal bytes k place
+      by : (c : Course C.SequentOf) → Turn C number goal (length front) st q m 10 c → c ≡ judged (rejected k place) → IsRejectedAt C number goal bytes k place
       by _ (goes r l e a) f = let no : ⊥ = cc in absurd no
       by _ (tells x e) f = let no : ⊥ = cc in absurd no
-      by _ (misses s e w never) f = rejecting e (cc) (cc) (unfit s (is_whole-step number Lkf st 10 s w) (steps-some number (length front) st 10 s e w) never)
-      by _ (leaves e w ends open_list) f = rejecting e (cc) (cc) (unfinished ends (steps-none number (length front) st 10 e w) open_list)
+      by _ (misses s e w never) f = rejecting e (cc) (cc) (unfit s (is_whole-step number C.logic st 10 s w) (steps-some C number (length front) st 10 s e w) never)
+      by _ (leaves e w ends open_list) f = rejecting e (cc) (cc) (unfinished ends (steps-none C number (length front) st 10 e w) open_list)
 
-  rejected-forth : (c : Course) → Shows number goal bytes c → at_end (length bytes) c ≡ rejected k place → IsRejectedAt number goal bytes k place
-  rejected-forth _ (still q m u h) e = absurd (at-end-open (is_whole (run number Lkf start bytes)) m k place (record { code = Unexpected; at = length bytes }) e)
+  rejected-forth : (c : Course C.SequentOf) → Shows C number goal bytes c → at_end (length bytes) c ≡ rejected k place → IsRejectedAt C number goal bytes k place
+  rejected-forth _ (still q m u h) e = absurd (at-end-open (is_whole (run number C.logic start bytes)) m k place (record { code = Unexpected; at = length bytes }) e)
   rejected-forth _ (here front b more q m j parts u h t) e =
-      let ten = turn-ten (length front) (run number Lkf start front) q m b (judged j) t (ap judged e) in
-      at-line-end front more q m (judged j) (subst (λ x. front ++ x ∷ more ≡ bytes) ten parts) u h (subst (λ x. Turn number goal (length front) (run number Lkf start front) q m x (judged j)) ten t) (ap judged e)
+      let ten = turn-ten (length front) (run number C.logic start front) q m b (judged j) t (ap judged e) in
+      at-line-end front more q m (judged j) (subst (λ x. front ++ x ∷ more ≡ bytes) ten parts) u h (subst (λ x. Turn C number goal (length front) (run number C.logic start front) q m x (judged j)) ten t) (ap judged e)
 
-  rejected-back : IsRejectedAt number goal bytes k place → judgment number goal bytes ≡ rejected k place
+  rejected-back : IsRejectedAt C number goal bytes k place → judgment C number goal bytes ≡ rejected k place
   rejected-back h =
-      ap (judgment number goal) (sym h.parts) ∙ by (subst (λ v. WhyRejected v h.steps h.pending) same h.why) ∙ ap (λ n. rejected n (length h.front)) h.count ∙ ap (rejected k) h.ends_at
+      ap (judgment C number goal) (sym h.parts) ∙ by (subst (λ v. WhyRejected C v h.steps h.pending) same h.why) ∙ ap (λ n. rejected n (length h.front)) h.count ∙ ap (rejected k) h.ends_at
     where
       st : State
-      st = run number Lkf start h.front
+      st = run number C.logic start h.front
 
       after : State
-      after = go number Lkf st 10
+      after = go number C.logic st 10
 
-      same : run number Lkf start (h.front ++ 10 ∷ []) ≡ after
-      same = run-append number Lkf start h.front (10 ∷ [])
+      same : run number C.logic start (h.front ++ 10 ∷ []) ≡ after
+      same = run-append number C.logic start h.front (10 ∷ [])
 
       last_byte : fault (0 + length h.front) st after ≡ None
-      last_byte = (untold-parts number h.front 10 [] start 0 h.untold).0
+      last_byte = (untold-parts C number h.front 10 [] start 0 h.untold).0
 
       none : fault (length h.front) st after ≡ None
       none = let zero : 0 + length h.front ≡ length h.front = omega arith in subst (λ p. fault p st after ≡ None) zero last_byte
 
       open_before : (c : Bool) → is_whole st ≡ c → is_whole st ≡ false
       open_before false w = w
-      open_before true w = let e = nothing-behind number st (length h.front) (10 ∷ []) w (none, tt) in let no : ⊥ = cc (e) in absurd no
+      open_before true w = let e = nothing-behind C number st (length h.front) (10 ∷ []) w (none, tt) in let no : ⊥ = cc (e) in absurd no
 
-      before : steps_of st ≡ h.steps → course_of number goal h.front ≡ going st h.pending (length h.steps)
+      before : steps_of st ≡ h.steps → course_of C number goal h.front ≡ going st h.pending (length h.steps)
       before e =
-          stands-still number goal h.front h.pending (length h.steps) (untold-front number h.front (10 ∷ []) start 0 h.untold)
-          (record { plays_to = subst (λ ss. Plays (start_of goal) ss h.pending) (sym e) h.plays_to; count = ap length e; closed = λ t. absurd (apart (is_whole st) (open_before (is_whole st) refl) t) })
+          stands-still C number goal h.front h.pending (length h.steps) (untold-front C number h.front (10 ∷ []) start 0 h.untold)
+          (record { plays_to = subst (λ ss. Plays C (start_of C goal) ss h.pending) (sym e) h.plays_to; count = ap length e; closed = λ t. absurd (apart (is_whole st) (open_before (is_whole st) refl) t) })
 
-      byte : advance number (length h.front) (going st h.pending (length h.steps)) 10 ≡ fitting (length h.front) after (step_with number Lkf st 10) h.pending (length h.steps)
-      byte = ap (λ o. judging o (length h.front) after (step_with number Lkf st 10) h.pending (length h.steps)) none
+      byte : advance C number (length h.front) (going st h.pending (length h.steps)) 10 ≡ fitting C (length h.front) after (step_with number C.logic st 10) h.pending (length h.steps)
+      byte = ap (λ o. judging C o (length h.front) after (step_with number C.logic st 10) h.pending (length h.steps)) none
 
-      by : WhyRejected after h.steps h.pending → judgment number goal (h.front ++ 10 ∷ h.rest) ≡ rejected (suc (length h.steps)) (length h.front)
+      by : WhyRejected C after h.steps h.pending → judgment C number goal (h.front ++ 10 ∷ h.rest) ≡ rejected (suc (length h.steps)) (length h.front)
       by (unfit s w e never) =
-          let l = last-step number (length h.front) st h.steps s none w e in
-          judged-at number goal h.front 10 h.rest h.pending (length h.steps) (rejected (suc (length h.steps)) (length h.front)) (before l.1)
+          let l = last-step C number (length h.front) st h.steps s none w e in
+          judged-at C number goal h.front 10 h.rest h.pending (length h.steps) (rejected (suc (length h.steps)) (length h.front)) (before l.1)
           (byte
-          ∙ ap (λ o. fitting (length h.front) after o h.pending (length h.steps)) l.0
-          ∙ ap (λ o. playing (length h.front) after o (length h.steps)) (played-none h.pending s never))
+          ∙ ap (λ o. fitting C (length h.front) after o h.pending (length h.steps)) l.0
+          ∙ ap (λ o. playing (length h.front) after o (length h.steps)) (played-none C h.pending s never))
       by (unfinished w e open_list) =
-          let l = last-line number st 10 w in
-          judged-at number goal h.front 10 h.rest h.pending (length h.steps) (rejected (suc (length h.steps)) (length h.front)) (before (sym (steps-none number (length h.front) st 10 none l) ∙ e))
-          (byte ∙ ap (λ o. fitting (length h.front) after o h.pending (length h.steps)) l ∙ left-behind (length h.front) after h.pending (length h.steps) w open_list)
+          let l = last-line C number st 10 w in
+          judged-at C number goal h.front 10 h.rest h.pending (length h.steps) (rejected (suc (length h.steps)) (length h.front)) (before (sym (steps-none C number (length h.front) st 10 none l) ∙ e))
+          (byte ∙ ap (λ o. fitting C (length h.front) after o h.pending (length h.steps)) l ∙ left-behind (length h.front) after h.pending (length h.steps) w open_list)
 
-pub rejected_at_line : RejectedAtLine
-rejected_at_line number goal bytes k place = (λ e. rejected-forth number goal bytes k place (course_of number goal bytes) (shows number goal bytes) e, rejected-back number goal bytes k place)
+pub rejected_at_line : (C : RuleCalculus) → RejectedAtLine C
+rejected_at_line C number goal bytes k place = (λ e. rejected-forth C number goal bytes k place (course_of C number goal bytes) (shows C number goal bytes) e, rejected-back C number goal bytes k place)
 
 -- bytes with a line end are not all inside a line
 no-ten : (front rest : List ℕ) → list_all is_in_line (front ++ 10 ∷ rest) ≡ true → ⊥
@@ -197,11 +198,16 @@ no-ten (c ∷ front) rest e = by (is_in_line c) e (no-ten front rest)
     by true f rec = rec f
     by false f rec = cc
 
-pub rejected_begins : RejectedBegins
-rejected_begins text number back goal bytes k place h = by ((certificate_begins text number back Lkf (h.front ++ 10 ∷ [])).0 (untold-going number Lkf (h.front ++ 10 ∷ []) start 0 tt h.untold))
+-- the line of a header has no line end
+header-in_line : (l : Logic) → list_all is_in_line (header_word l) ≡ true
+header-in_line Lkf = refl
+header-in_line Ljf = refl
+
+pub rejected_begins : (C : RuleCalculus) → RejectedBegins C
+rejected_begins C text number back goal bytes k place h = by ((certificate_begins text number back C.logic (h.front ++ 10 ∷ [])).0 (untold-going number C.logic (h.front ++ 10 ∷ []) start 0 tt h.untold))
   where
-    by : BeginsCertificate text number Lkf (h.front ++ 10 ∷ []) ⊎ BeginsHeader Ljf (h.front ++ 10 ∷ []) → BeginsCertificate text number Lkf (h.front ++ 10 ∷ [])
+    by : BeginsCertificate text number C.logic (h.front ++ 10 ∷ []) ⊎ BeginsHeader (other C.logic) (h.front ++ 10 ∷ []) → BeginsCertificate text number C.logic (h.front ++ 10 ∷ [])
     by (inl c) = c
     by (inr (b, (more, e))) =
-        let inside : list_all is_in_line (header_word Ljf) ≡ true = refl in
+        let inside = header-in_line (other C.logic) in
         absurd (no-ten h.front (b ∷ more) (subst (λ v. list_all is_in_line v ≡ true) (e ∙ append_assoc h.front (10 ∷ []) (b ∷ more)) inside))

@@ -5,5 +5,6 @@ pub mod Pending
 pub mod Progress
 pub mod Check
 pub mod Verdict
+pub mod JudgmentIn
 pub mod Judgment
 pub mod JudgmentLaws

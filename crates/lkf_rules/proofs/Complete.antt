@@ -1,5 +1,6 @@
 -- Each instance of a rule that a step spells is what the step names.
 use Rattle.std.proofs.Common.{◌≡◌, ℕ, List, map, Some, Result, Ok, Err, IfOk, refl}
+use Rattle.polarised_formulas.specs.declared.logic.Logic.TheVariants.{Lkf}
 use Rattle.polarised_formulas.specs.declared.step.Step.{Step}
 use Rattle.lkf_rules.specs.Sequent.{Sequent, Levelled, IsInScope}
 use Rattle.lkf_rules.specs.Rule.{Rule, true_negative, false_negative, or_negative, and_negative, every, store, decide, cut, true_positive, and_positive, or_left, or_right, some, release, initial}
@@ -9,7 +10,7 @@ use Rattle.lkf_rules.specs.declared.rules.outcome.StepRefusal.{StepRefusal}
 use Rattle.lkf_rules.specs.declared.rules.outcome.StepRefusal.TheVariants.{DoesNotFit, OutOfMemory}
 use Rattle.lkf_rules.specs.Values.{premise_list, Answers}
 use Rattle.lkf_rules.specs.Instance.{SpellsRule, level_above, IsInstance}
-use Rattle.lkf_rules.proofs.Leaves.{is_scoped-in_scope, may_be_cut-each}
+use Rattle.polarised_formulas.proofs.Leaves.{is_scoped-in_scope, may_be_cut-each}
 use Rattle.lkf_rules.proofs.InitialFacts.{closes-dual}
 use Rattle.lkf_rules.proofs.Sound.{IsSound-premises_of}
 
@@ -23,7 +24,7 @@ premises_of-rule step n _ _ (and_negative s g a b) h = rw h refl
 premises_of-rule step n _ _ (every s g a j fresh) h = rw (h.0, h.1) refl
 premises_of-rule step n _ _ (store s g f storable) h = rw (h, storable) refl
 premises_of-rule step n _ _ (decide s f stands positive) h = rw (h.1, h.2, positive) refl
-premises_of-rule step n _ _ (cut s b proper lkf) h = rw (h.0, may_be_cut-each n 0 b h.1 lkf) refl
+premises_of-rule step n _ _ (cut s b proper lkf) h = rw (h.0, may_be_cut-each n Lkf 0 b h.1 lkf) refl
 premises_of-rule step n _ _ (true_positive s) h = rw h refl
 premises_of-rule step n _ _ (and_positive s a b) h = rw h refl
 premises_of-rule step n _ _ (or_left s a b) h = rw h refl

@@ -8,7 +8,7 @@ use Rattle.lkf_rules.specs.Sequent.{Sequent, up, down, StandsIn}
 use Rattle.lkf_rules.specs.Rule.{Rule, true_negative, false_negative, or_negative, and_negative, every, store, decide, cut, true_positive, and_positive, or_left, or_right, some, release, initial}
 use Rattle.lkf_rules.specs.Derivation.{Tree, Trees, node, no_trees, tree, root_sequent, roots, IsDerivation, AreDerivations, node_count, all_node_count}
 use Rattle.lkf_rules.specs.Laws.{stored_of, with_stored}
-use Rattle.lkf_rules.proofs.Lists.{AllByRecursion-at}
+use Rattle.polarised_formulas.proofs.Elements.{AllByRecursion-at}
 
 -- the same formulas stand in both lists
 pub record AreAlike (s r : List Formula) : Type 0 where

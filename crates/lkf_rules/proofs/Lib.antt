@@ -1,12 +1,6 @@
-pub mod Lists
-pub mod Leaves
 pub mod Sound
-pub mod Play
-pub mod Preorder
-pub mod Spelling
 pub mod Exchange
 pub mod InitialFacts
 pub mod StepFacts
 pub mod Complete
-pub mod ScopeNodes
 pub mod SameSequents

@@ -1,17 +1,21 @@
 -- Sequents that are the same but for the numbers of names, and the premises that steps name there.
-use Rattle.std.proofs.Common.{◌≡◌, ℕ, suc, ◌+◌, Bool, true, false, if◌then◌else◌, ◌&&◌, nat_eq, List, [], ◌∷◌, Option, Some, None, refl, ap₂, subst}
-use Rattle.fpc_terms.specs.Term.{Term, Args}
+use Rattle.std.proofs.Common.{◌≡◌, ℕ, ◌+◌, Bool, true, false, if◌then◌else◌, ◌&&◌, nat_eq, List, [], ◌∷◌, Option, Some, None, refl, ap₂, subst}
+use Rattle.fpc_terms.specs.Term.{Term}
+use Rattle.polarised_formulas.specs.declared.logic.Logic.TheVariants.{Lkf}
 use Rattle.polarised_formulas.specs.declared.logic.Polarity.{Polarity}
 use Rattle.polarised_formulas.specs.declared.logic.Polarity.TheVariants.{Positive, Negative}
 use Rattle.polarised_formulas.specs.declared.logic.Side.TheVariants.{Left, Right}
 use Rattle.polarised_formulas.specs.declared.step.Step.{Step}
 use Rattle.polarised_formulas.specs.declared.step.Step.TheVariants.{TrueN, FalseN, OrN, AndN, Every, Store, Decide, TrueP, AndP, OrP, Exists, Release, Init, Cut}
 use Rattle.polarised_formulas.specs.Formula.{Formula, polarity_of}
+use Rattle.polarised_formulas.proofs.Calculus.Naming.{SameLevelled, same_levelled, IsOneToOne, RespectsNames}
 use Rattle.lkf_rules.specs.Sequent.{Sequent, up, down, Levelled}
-use Rattle.lkf_rules.specs.Scope.{is_scoped, are_scoped, may_be_cut}
+use Rattle.lkf_rules.specs.Lkf.{lkf}
+use Rattle.polarised_formulas.specs.Scope.{is_scoped, may_be_cut}
+use Rattle.polarised_formulas.proofs.SameScopes.{is_scoped-same, may_be_cut-same}
 use Rattle.lkf_rules.specs.Rule.{is_storable}
 use Rattle.lkf_rules.specs.Premises.{where_positive, where_negative, decided, closed_with, worked, chosen, focused, premises_of}
-use Rattle.fpc_terms.proofs.SameTerms.{SameTerm, SameArgs, same_eigen, same_bound, same_variable, same_app, same_no_args, same_arg, SameList, same_nil, same_cons, SameOption, same_none, same_some, if-same, append-same, slice_get-same, same_args-same}
+use Rattle.fpc_terms.proofs.SameTerms.{SameTerm, same_eigen, SameList, same_nil, same_cons, SameOption, same_none, same_some, if-same, append-same, slice_get-same, same_args-same}
 use Rattle.polarised_formulas.proofs.SameFormulas.{SameFormula, same_truth, same_falsity, same_atom, same_conj, same_disj, same_implies, same_for_all, same_exists, polarity_of-same, dual_of-same, open_at-same}
 use Rattle.polarised_formulas.proofs.SameSteps.{IsNameless, SameStep, same_exists_step, same_left_every, same_right_exists, same_cut, same_nameless}
 
@@ -20,14 +24,10 @@ pub data SameSequent (S : ℕ → ℕ → Type 0) : Sequent → Sequent → Type
   same_up : {s r g h : List Formula} → SameList (SameFormula S) s r → SameList (SameFormula S) g h → SameSequent S (up s g) (up r h)
   same_down : {s r : List Formula} {f g : Formula} → SameList (SameFormula S) s r → SameFormula S f g → SameSequent S (down s f) (down r g)
 
--- so are two sequents with their level
-pub data SameLevelled (S : ℕ → ℕ → Type 0) : Levelled → Levelled → Type 0 where
-  same_levelled : (n : ℕ) → {c d : Sequent} → SameSequent S c d → SameLevelled S (n, c) (n, d)
-
 module _ (S : ℕ → ℕ → Type 0) where
   -- premises on both sides or on none
   abbrev pub SamePremises : Option (List Levelled) → Option (List Levelled) → Type 0
-  SamePremises o p = SameOption (SameList (SameLevelled S)) o p
+  SamePremises o p = SameOption (SameList (SameLevelled (SameSequent S))) o p
 
   abbrev SameFormulas : List Formula → List Formula → Type 0
   SameFormulas s r = SameList (SameFormula S) s r
@@ -50,40 +50,19 @@ module _ (S : ℕ → ℕ → Type 0) where
   is_storable-same (same_for_all h) = refl
   is_storable-same (same_exists h) = refl
 
-  mutual
-    is_scoped-same : (n d : ℕ) {t u : Term} → SameTerm S t u → is_scoped n d t ≡ is_scoped n d u
-    is_scoped-same n d (same_eigen k) = refl
-    is_scoped-same n d (same_bound k) = refl
-    is_scoped-same n d (same_variable k) = refl
-    is_scoped-same n d (same_app s hs) = are_scoped-same n d hs
-
-    are_scoped-same : (n d : ℕ) {ts us : Args} → SameArgs S ts us → are_scoped n d ts ≡ are_scoped n d us
-    are_scoped-same n d same_no_args = refl
-    are_scoped-same n d (same_arg h hs) = ap₂ (λ a b. a && b) (is_scoped-same n d h) (are_scoped-same n d hs)
-
-  may_be_cut-same : (n d : ℕ) {f g : Formula} → SameFormula S f g → may_be_cut n d f ≡ may_be_cut n d g
-  may_be_cut-same n d (same_truth p) = refl
-  may_be_cut-same n d (same_falsity p) = refl
-  may_be_cut-same n d (same_atom positive s hs) = are_scoped-same n d hs
-  may_be_cut-same n d (same_conj p h k) = ap₂ (λ a b. a && b) (may_be_cut-same n d h) (may_be_cut-same n d k)
-  may_be_cut-same n d (same_disj p h k) = ap₂ (λ a b. a && b) (may_be_cut-same n d h) (may_be_cut-same n d k)
-  may_be_cut-same n d (same_implies h k) = refl
-  may_be_cut-same n d (same_for_all h) = may_be_cut-same n (suc d) h
-  may_be_cut-same n d (same_exists h) = may_be_cut-same n (suc d) h
-
   -- the same premises, where two tests tell the same
-  tested-same : (c d : Bool) → c ≡ d → {ps qs : List Levelled} → SameList (SameLevelled S) ps qs → SamePremises (if c then Some ps else None) (if d then Some qs else None)
+  tested-same : (c d : Bool) → c ≡ d → {ps qs : List Levelled} → SameList (SameLevelled (SameSequent S)) ps qs → SamePremises (if c then Some ps else None) (if d then Some qs else None)
   tested-same c d e {ps = ps} {qs = qs} h =
       subst (λ t. SamePremises (if c then Some ps else None) (if t then Some qs else None)) e (if-same (λ o p. SamePremises o p) c (λ _. same_some h) (λ _. same_none))
 
-  positive-same : (p q : Polarity) → p ≡ q → {ps qs : List Levelled} → SameList (SameLevelled S) ps qs → SamePremises (where_positive p ps) (where_positive q qs)
+  positive-same : (p q : Polarity) → p ≡ q → {ps qs : List Levelled} → SameList (SameLevelled (SameSequent S)) ps qs → SamePremises (where_positive p ps) (where_positive q qs)
   positive-same p q e {ps = ps} {qs = qs} h = subst (λ r. SamePremises (where_positive p ps) (where_positive r qs)) e (by p)
     where
       by : (p : Polarity) → SamePremises (where_positive p ps) (where_positive p qs)
       by Positive = same_some h
       by Negative = same_none
 
-  negative-same : (p q : Polarity) → p ≡ q → {ps qs : List Levelled} → SameList (SameLevelled S) ps qs → SamePremises (where_negative p ps) (where_negative q qs)
+  negative-same : (p q : Polarity) → p ≡ q → {ps qs : List Levelled} → SameList (SameLevelled (SameSequent S)) ps qs → SamePremises (where_negative p ps) (where_negative q qs)
   negative-same p q e {ps = ps} {qs = qs} h = subst (λ r. SamePremises (where_negative p ps) (where_negative r qs)) e (by p)
     where
       by : (p : Polarity) → SamePremises (where_negative p ps) (where_negative p qs)
@@ -110,15 +89,15 @@ module _ (S : ℕ → ℕ → Type 0) where
 
   cut-same : (n : ℕ) {s r : List Formula} {a b : Formula} → SameFormulas s r → SameFormula S a b → SamePremises (chosen (Cut a) n s) (chosen (Cut b) n r)
   cut-same n {a = a} {b = b} s h =
-      tested-same (may_be_cut n 0 a) (may_be_cut n 0 b) (may_be_cut-same n 0 h)
+      tested-same (may_be_cut Lkf n 0 a) (may_be_cut Lkf n 0 b) (may_be_cut-same S Lkf n 0 h)
       (same_cons (same_levelled n (same_up s (same_cons h same_nil))) (same_cons (same_levelled n (same_up s (same_cons (dual_of-same S h) same_nil))) same_nil))
 
   some-same : (n : ℕ) {s r : List Formula} {t u : Term} {f g : Formula} → SameFormulas s r → SameTerm S t u → SameFormula S f g → SamePremises (focused (Exists t) n s f) (focused (Exists u) n r g)
-  some-same n {t = t} {u = u} s h (same_exists a) = tested-same (is_scoped n 0 t) (is_scoped n 0 u) (is_scoped-same n 0 h) (same_cons (same_levelled n (same_down s (open_at-same S 0 h a))) same_nil)
+  some-same n {t = t} {u = u} s h (same_exists a) = tested-same (is_scoped n 0 t) (is_scoped n 0 u) (is_scoped-same S n 0 h) (same_cons (same_levelled n (same_down s (open_at-same S 0 h a))) same_nil)
   some-same n s h _ = same_none
 
   -- where the relation is one to one
-  module _ (one : (f g m n : ℕ) → S f m → S g n → nat_eq f g ≡ nat_eq m n) where
+  module _ (one : IsOneToOne S) where
     closed-same : {f g : Formula} {o p : Option Formula} → SameFormula S f g → SameOption (SameFormula S) o p → SamePremises (closed_with f o) (closed_with g p)
     closed-same (same_atom true {f = f} {g = m} s hs) (same_some (same_atom false {f = g} {g = n} r ks)) =
         tested-same _ _ (ap₂ (λ a b. a && b) (one f g m n s r) (same_args-same S one hs ks)) same_nil
@@ -135,7 +114,7 @@ module _ (S : ℕ → ℕ → Type 0) where
     focused-same _ i n s f = same_none
 
     -- a step names the same premises
-    pub premises_of-same : {t u : Step} {c d : Sequent} → SameStep S t u → (n : ℕ) → SameSequent S c d → SamePremises (premises_of t n c) (premises_of u n d)
+    premises_of-same : {t u : Step} {c d : Sequent} → SameStep S t u → (n : ℕ) → SameSequent S c d → SamePremises (premises_of t n c) (premises_of u n d)
     premises_of-same (same_exists_step h) n (same_up s same_nil) = same_none
     premises_of-same (same_exists_step h) n (same_up s (same_cons f g)) = same_none
     premises_of-same (same_exists_step h) n (same_down s f) = some-same n s h f
@@ -151,3 +130,11 @@ module _ (S : ℕ → ℕ → Type 0) where
     premises_of-same (same_nameless t i) n (same_up s same_nil) = chosen-same t i n s
     premises_of-same (same_nameless t i) n (same_up s (same_cons f g)) = worked-same t n s f g
     premises_of-same (same_nameless t i) n (same_down s f) = focused-same t i n s f
+
+-- the numbers of names don't matter in LKF
+pub lkf_respects_names : RespectsNames lkf
+lkf_respects_names = record {
+  SameSequent = SameSequent;
+  root_same = λ S f g h. same_up same_nil (same_cons h same_nil);
+  premises_same = λ S one t u s n c d h. premises_of-same S one s n h;
+}

@@ -4,19 +4,22 @@ use Rattle.std.proofs.lemmas.Bool.Decides.{nat_tests}
 use Rattle.std.proofs.lemmas.Bool.{and_parts}
 use Rattle.std.specs.List.{AllByRecursion}
 use Rattle.fpc_terms.specs.Term.{Term, eigen, Args, Never, Always, IsProperTerm, same_args}
+use Rattle.polarised_formulas.specs.declared.logic.Logic.TheVariants.{Lkf}
 use Rattle.polarised_formulas.specs.declared.logic.Polarity.{Polarity}
 use Rattle.polarised_formulas.specs.declared.logic.Polarity.TheVariants.{Positive, Negative}
 use Rattle.polarised_formulas.specs.declared.logic.Side.TheVariants.{Left, Right}
 use Rattle.polarised_formulas.specs.declared.step.Step.{Step}
 use Rattle.polarised_formulas.specs.declared.step.Step.TheVariants.{TrueN, FalseN, OrN, AndN, Every, Store, Decide, TrueP, AndP, OrP, Exists, Release, Init, Cut}
-use Rattle.polarised_formulas.specs.Formula.{Formula, truth, falsity, atom, conj, disj, for_all, exists, polarity_of, dual_of, open_at, IsProper, IsLkf}
-use Rattle.lkf_rules.specs.Sequent.{Sequent, up, down, Levelled, IsInScope, IsLkfSequent, IsFresh, IsProperSequent}
+use Rattle.polarised_formulas.specs.Formula.{Formula, truth, falsity, atom, conj, disj, for_all, exists, polarity_of, dual_of, open_at, IsProper, IsClosed, IsLkf}
+use Rattle.polarised_formulas.specs.Calculus.Lawful.{IsLawful}
+use Rattle.lkf_rules.specs.Sequent.{Sequent, up, down, Levelled, IsInScope, IsLkfSequent, IsFresh, IsProperSequent, root_of}
+use Rattle.lkf_rules.specs.Lkf.{lkf}
 use Rattle.lkf_rules.specs.Rule.{Rule, is_storable, true_negative, false_negative, or_negative, and_negative, every, store, decide, cut, true_positive, and_positive, or_left, or_right, some, release, initial}
 use Rattle.lkf_rules.specs.Premises.{where_positive, where_negative, decided, closed_with, worked, chosen, focused, premises_of}
-use Rattle.lkf_rules.proofs.Lists.{AllByRecursion-append, AllByRecursion-at, AllByRecursion-weaker, IfSome-if}
-use Rattle.lkf_rules.specs.Scope.{is_scoped, may_be_cut}
+use Rattle.polarised_formulas.proofs.Elements.{AllByRecursion-append, AllByRecursion-at, AllByRecursion-weaker, IfSome-if}
+use Rattle.polarised_formulas.specs.Scope.{is_scoped, may_be_cut}
 use Rattle.lkf_rules.specs.Instance.{IsInstance}
-use Rattle.lkf_rules.proofs.Leaves.{Each-weaker, EachInside-weaker, EachInside-open_at, EachInside-dual_of, InScope-is_scoped, EachInside-may_be_cut, IsLkf-may_be_cut, IsLkf-open_at, IsLkf-dual_of, same_args-equal}
+use Rattle.polarised_formulas.proofs.Leaves.{Each-weaker, EachInside-weaker, EachInside-open_at, EachInside-dual_of, InScope-is_scoped, EachInside-may_be_cut, IsOfLogic-may_be_cut, IsLkf-open_at, IsLkf-dual_of, same_args-equal}
 
 -- the sequents of a list, without their levels
 abbrev pub sequents_of : List Levelled → List Sequent
@@ -113,16 +116,16 @@ IfSome-decided n k s None e = tt
 IfSome-decided n k s (Some f) e = IfSome-where_positive (IsSound (Decide k) n (up s [])) (polarity_of f) ((n, down s f) ∷ []) (IsSound-decide n k s f e)
 
 -- a cut
-IsSound-cut : (n : ℕ) (s : List Formula) (b : Formula) → may_be_cut n 0 b ≡ true → IsSound (Cut b) n (up s []) ((n, up s (b ∷ [])) ∷ (n, up s (dual_of b ∷ [])) ∷ [])
+IsSound-cut : (n : ℕ) (s : List Formula) (b : Formula) → may_be_cut Lkf n 0 b ≡ true → IsSound (Cut b) n (up s []) ((n, up s (b ∷ [])) ∷ (n, up s (dual_of b ∷ [])) ∷ [])
 IsSound-cut n s b passes =
-    let within = EachInside-may_be_cut n 0 b passes in
-    let lkf = IsLkf-may_be_cut n 0 b passes in
+    let within = EachInside-may_be_cut n Lkf 0 b passes in
+    let of = IsOfLogic-may_be_cut n Lkf 0 b passes in
     let proper : IsProper Always b = EachInside-weaker (λ m. m < n) Always (λ m lt. tt) 0 b within in
     record {
-      rule = λ h. cut s b proper lkf;
-      named = λ h. (_, cut s b proper lkf, (refl, within), refl);
+      rule = λ h. cut s b proper of;
+      named = λ h. (_, cut s b proper of, (refl, within), refl);
       scope = λ h. ((h.0, (within, tt)), ((h.0, (EachInside-dual_of (λ m. m < n) 0 b within, tt)), tt));
-      logic = λ h. ((h.0, (lkf, tt)), ((h.0, (IsLkf-dual_of b lkf, tt)), tt));
+      logic = λ h. ((h.0, (of, tt)), ((h.0, (IsLkf-dual_of b of, tt)), tt));
       levels = (omega arith, (omega arith, tt));
     }
 
@@ -130,7 +133,7 @@ IsSound-cut n s b passes =
 IfSome-chosen : (step : Step) (n : ℕ) (s : List Formula) → IfSome (chosen step n s) (IsSound step n (up s []))
 IfSome-chosen (Decide k) n s = IfSome-decided n k s (slice_get s k) refl
 IfSome-chosen (Cut b) n s =
-    IfSome-if (IsSound (Cut b) n (up s [])) (may_be_cut n 0 b) ((n, up s (b ∷ [])) ∷ (n, up s (dual_of b ∷ [])) ∷ []) (IsSound-cut n s b)
+    IfSome-if (IsSound (Cut b) n (up s [])) (may_be_cut Lkf n 0 b) ((n, up s (b ∷ [])) ∷ (n, up s (dual_of b ∷ [])) ∷ []) (IsSound-cut n s b)
 IfSome-chosen _ n s = tt
 
 -- an instance of `some`
@@ -194,3 +197,17 @@ IfSome-premises_of step n (down s f) = IfSome-focused step n s f
 -- the same, at the premises
 pub IsSound-premises_of : (step : Step) (n : ℕ) (c : Sequent) (ps : List Levelled) → premises_of step n c ≡ Some ps → IsSound step n c ps
 IsSound-premises_of step n c ps fits = rw fits at (IfSome-premises_of step n c)
+
+-- a goal is in scope at the start
+root-scope : (f : Formula) → IsClosed f → IsInScope (0, root_of f)
+root-scope f closed = (tt, (EachInside-weaker Never (λ m. m < 0) (λ m x. absurd x) 0 f closed, tt))
+
+-- LKF is lawful
+pub lkf_is_lawful : IsLawful lkf
+lkf_is_lawful = record {
+  keeps = λ step n c ps fits.
+      let s = IsSound-premises_of step n c ps fits in
+      record { rule = s.rule; scope = s.scope; logic = s.logic; levels = s.levels };
+  root_scope = root-scope;
+  root_logic = λ f of. (tt, (of, tt));
+}

@@ -4,6 +4,7 @@ use Rattle.std.specs.Prelude.{true, Option, Some, None, Result, Ok, Err, IfOk}
 use Rattle.std.specs.Option.{IsSome}
 use Rattle.fpc_terms.specs.Term.{Term, Each, Always, Never}
 use Rattle.fpc_terms.proofs.ScopeFacts.{Each-weaker}
+use Rattle.polarised_formulas.specs.declared.logic.Logic.TheVariants.{Lkf}
 use Rattle.polarised_formulas.specs.declared.step.Step.{Step}
 use Rattle.polarised_formulas.specs.declared.step.Step.TheVariants.{Cut}
 use Rattle.polarised_formulas.specs.Formula.{Formula, IsLkf}
@@ -11,17 +12,17 @@ use Rattle.lkf_rules.specs.declared.rules.outcome.Premises.{Premises}
 use Rattle.lkf_rules.specs.declared.rules.outcome.StepRefusal.{StepRefusal}
 use Rattle.lkf_rules.specs.declared.rules.outcome.StepRefusal.TheVariants.{DoesNotFit, OutOfMemory}
 use Rattle.lkf_rules.specs.Sequent.{Levelled}
-use Rattle.lkf_rules.specs.Scope.{is_scoped, may_be_cut}
+use Rattle.polarised_formulas.specs.Scope.{is_scoped, may_be_cut}
 use Rattle.lkf_rules.specs.Values.{premise_list, Gives, Answers, MayRunOut}
-use Rattle.lkf_rules.proofs.Leaves.{InScope-is_scoped, IsLkf-may_be_cut}
+use Rattle.polarised_formulas.proofs.Leaves.{InScope-is_scoped, IsOfLogic-may_be_cut}
 
 -- a term in scope has no bound index
 pub is_unbound : (n : ℕ) (t : Term) → is_scoped n 0 t ≡ true → Each Always Never Always t
 is_unbound n t passes = Each-weaker (λ n x. tt) (λ n x. x) (λ n x. absurd x) t (InScope-is_scoped n t passes)
 
 -- a formula that may be cut is of LKF
-pub is_lkf : (n : ℕ) (f : Formula) → may_be_cut n 0 f ≡ true → IsLkf f
-is_lkf n f passes = IsLkf-may_be_cut n 0 f passes
+pub is_lkf : (n : ℕ) (f : Formula) → may_be_cut Lkf n 0 f ≡ true → IsLkf f
+is_lkf n f passes = IsOfLogic-may_be_cut n Lkf 0 f passes
 
 pub ruleset step_facts = (is_unbound)
 

@@ -1,54 +1,30 @@
--- Derivations of LKF: finite trees of sequents in which each node and its children are an instance of a rule.
-use Rattle.std.specs.Prelude.{◌≡◌, ℕ, suc, ◌+◌, List, [], ◌∷◌}
+-- Derivations of LKF: those of any calculus, at its rules.
 use Rattle.polarised_formulas.specs.Formula.{Formula}
-use Rattle.lkf_rules.specs.Sequent.{Sequent, root_of}
-use Rattle.lkf_rules.specs.Rule.{Rule}
+use Rattle.polarised_formulas.specs.Calculus.Derivation.{Tree as TreeOf, Trees as TreesOf, IsDerivation as IsDerivationIn, AreDerivations as AreDerivationsIn, Derivation as DerivationIn, IsDerivable as IsDerivableIn}
+pub use Rattle.polarised_formulas.specs.Calculus.Derivation.{node, no_trees, tree, root_sequent, roots, node_count, all_node_count}
+use Rattle.lkf_rules.specs.Sequent.{Sequent}
+use Rattle.lkf_rules.specs.Lkf.{lkf}
 
-mutual
-  -- a finite tree of sequents
-  pub data Tree : Type 0 where
-    node : (sequent : Sequent) → (children : Trees) → Tree
+-- a finite tree of sequents
+abbrev pub Tree : Type 0
+Tree = TreeOf Sequent
 
-  -- trees in a row
-  pub data Trees : Type 0 where
-    no_trees : Trees
-    tree : Tree → Trees → Trees
+-- trees in a row
+abbrev pub Trees : Type 0
+Trees = TreesOf Sequent
 
--- the sequent at the root of a tree
-abbrev pub root_sequent : Tree → Sequent
-root_sequent (node c ts) = c
+-- each node and its children are an instance of a rule of LKF
+abbrev pub IsDerivation : Tree → Type 0
+IsDerivation t = IsDerivationIn lkf t
 
--- the sequents at the roots of trees in a row
-abbrev pub roots : Trees → List Sequent
-roots no_trees = []
-roots (tree t ts) = root_sequent t ∷ roots ts
-
-abbrev mutual
-  -- each node and its children are an instance of a rule
-  pub IsDerivation : Tree → Type 0
-  IsDerivation (node c ts) = Rule c (roots ts) × AreDerivations ts
-
-  -- the same of each of some trees
-  pub AreDerivations : Trees → Type 0
-  AreDerivations no_trees = Unit {0}
-  AreDerivations (tree t ts) = IsDerivation t × AreDerivations ts
-
-abbrev mutual
-  -- how many nodes a tree has
-  pub node_count : Tree → ℕ
-  node_count (node c ts) = suc (all_node_count ts)
-
-  -- how many nodes some trees have together
-  pub all_node_count : Trees → ℕ
-  all_node_count no_trees = 0
-  all_node_count (tree t ts) = node_count t + all_node_count ts
+-- the same of each of some trees
+abbrev pub AreDerivations : Trees → Type 0
+AreDerivations ts = AreDerivationsIn lkf ts
 
 -- a derivation of the goal
-pub record Derivation (f : Formula) : Type 0 where
-  pub of : Tree
-  pub root : root_sequent of ≡ root_of f
-  pub is_derivation : IsDerivation of
+abbrev pub Derivation : Formula → Type 0
+Derivation f = DerivationIn lkf f
 
 -- the goal has a derivation
 abbrev pub IsDerivable : Formula → Type 0
-IsDerivable f = Derivation f
+IsDerivable f = IsDerivableIn lkf f

@@ -1,9 +1,9 @@
 pub mod Sequent
-pub mod Scope
 pub mod Rule
-pub mod Derivation
 pub mod Premises
 pub mod Instance
+pub mod Lkf
+pub mod Derivation
 pub mod Certificate
 pub mod Play
 pub mod Laws

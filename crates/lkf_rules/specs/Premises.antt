@@ -1,14 +1,15 @@
 -- The instance of a rule that a step names at a sequent with its level.
 use Rattle.std.specs.Prelude.{ℕ, ◌+◌, true, false, ◌&&◌, nat_eq, if◌then◌else◌, List, [], ◌∷◌, ◌++◌, Option, Some, None, slice_get}
 use Rattle.fpc_terms.specs.Term.{eigen, same_args}
+use Rattle.polarised_formulas.specs.declared.logic.Logic.TheVariants.{Lkf}
 use Rattle.polarised_formulas.specs.declared.logic.Polarity.{Polarity}
 use Rattle.polarised_formulas.specs.declared.logic.Polarity.TheVariants.{Positive, Negative}
 use Rattle.polarised_formulas.specs.declared.logic.Side.TheVariants.{Left, Right}
 use Rattle.polarised_formulas.specs.declared.step.Step.{Step}
 use Rattle.polarised_formulas.specs.declared.step.Step.TheVariants.{TrueN, FalseN, OrN, AndN, Every, Store, Decide, TrueP, AndP, OrP, Exists, Release, Init, Cut}
 use Rattle.polarised_formulas.specs.Formula.{Formula, truth, falsity, atom, conj, disj, for_all, exists, polarity_of, dual_of, open_at}
+use Rattle.polarised_formulas.specs.Scope.{is_scoped, may_be_cut}
 use Rattle.lkf_rules.specs.Sequent.{Sequent, up, down, Levelled}
-use Rattle.lkf_rules.specs.Scope.{is_scoped, may_be_cut}
 use Rattle.lkf_rules.specs.Rule.{is_storable}
 
 -- the premises where a formula is positive
@@ -44,7 +45,7 @@ worked _ n s f g = None
 -- a step at a sequent with nothing to work on
 abbrev pub chosen : Step → ℕ → List Formula → Option (List Levelled)
 chosen (Decide k) n s = decided n s (slice_get s k)
-chosen (Cut b) n s = if may_be_cut n 0 b then Some ((n, up s (b ∷ [])) ∷ (n, up s (dual_of b ∷ [])) ∷ []) else None
+chosen (Cut b) n s = if may_be_cut Lkf n 0 b then Some ((n, up s (b ∷ [])) ∷ (n, up s (dual_of b ∷ [])) ∷ []) else None
 chosen _ n s = None
 
 -- a step on the formula under focus

@@ -3,7 +3,6 @@
 
 pub mod laws;
 pub mod rules;
-pub mod scope;
 pub mod sequent;
 
 pub use rules::outcome::{Premises, StepRefusal};

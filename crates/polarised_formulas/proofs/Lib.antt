@@ -64,3 +64,8 @@ pub mod SameFormulas
 pub mod SameReadings
 pub mod SameSteps
 pub mod Following
+pub mod Elements
+pub mod Leaves
+pub mod ScopeNodes
+pub mod SameScopes
+pub mod Calculus

@@ -28,3 +28,5 @@ pub mod PlainStanding
 pub mod PlainTaking
 pub mod OneAnswer
 pub mod Adding
+pub mod Scope
+pub mod Calculus

@@ -6,10 +6,10 @@ ghost use Rattle.lkf_rules.specs.Effect.{Tells, TellsTo};
 
 use crate::rules::effect::Effect;
 use crate::rules::outcome::StepRefusal;
-use crate::scope::may_be_cut;
 use polarised_formulas::dual::dual;
 use polarised_formulas::formula::Formula;
-use polarised_formulas::logic::Polarity;
+use polarised_formulas::logic::{Logic, Polarity};
+use polarised_formulas::scope::may_be_cut;
 use polarised_formulas::shape::polarity;
 use polarised_formulas::step::Step;
 use std::alloc::Global;
@@ -33,7 +33,7 @@ pub(crate) fn decide(level: u64, stored: &[Formula], k: u64) -> Result<Effect, S
 pub(crate) fn cut(alloc: Global, level: u64, formula: &Formula) -> Result<Effect, StepRefusal>
     ensures { (s : List Formula) → TellsTo (Step.Cut formula.now) result level s [] (chosen (Step.Cut formula.now) level s) }
 {
-    if !may_be_cut(alloc, formula, level)? {
+    if !may_be_cut(alloc, Logic::Lkf, formula, level)? {
         return Err(StepRefusal::DoesNotFit);
     }
     let first = formula.copy()?;

@@ -6,7 +6,6 @@ ghost use Rattle.lkf_rules.specs.Effect.{Tells};
 
 use crate::rules::effect::Effect;
 use crate::rules::outcome::StepRefusal;
-use crate::scope::is_in_scope;
 use fpc_terms::term::TermBuf;
 use polarised_formulas::dual::is_dual;
 use polarised_formulas::formula::Formula;
@@ -14,6 +13,7 @@ use polarised_formulas::logic::{Polarity, Side};
 use polarised_formulas::node::Node;
 use polarised_formulas::opening::open_with;
 use polarised_formulas::parts::parts;
+use polarised_formulas::scope::is_in_scope;
 use polarised_formulas::shape::polarity;
 use polarised_formulas::step::Step;
 use std::alloc::Global;

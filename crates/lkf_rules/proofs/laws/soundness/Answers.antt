@@ -1,5 +1,7 @@
-use Rattle.lkf_rules.proofs.Spelling.{IsSpelling-plays}
+use Rattle.polarised_formulas.proofs.Calculus.Spelling.{IsSpelling-plays}
+use Rattle.lkf_rules.specs.Lkf.{lkf}
+use Rattle.lkf_rules.proofs.Sound.{lkf_is_lawful}
 use Rattle.lkf_rules.proofs.laws.soundness.Goals as goal
 
 pub returns : goal.returns
-returns c = λ f steps closed out. (IsSpelling-plays f steps closed out).derivation
+returns c = λ f steps closed out. (IsSpelling-plays lkf lkf_is_lawful f steps closed out).derivation

@@ -1,10 +1,13 @@
 -- The leaves of terms and formulas under opening, under the dual and under the tests of scope.
-use Rattle.std.proofs.Common.{◌≡◌, ℕ, suc, ◌<◌, Bool, true, false, nat_eq, if◌then◌else◌, refl, arith}
+use Rattle.std.proofs.Common.{◌≡◌, ℕ, suc, ◌<◌, Bool, true, false, nat_eq, ◌&&◌, if◌then◌else◌, refl, arith}
 use Rattle.std.proofs.lemmas.Bool.Decides.{nat_tests}
 use Rattle.std.proofs.lemmas.Bool.{and_parts}
 use Rattle.fpc_terms.specs.Term.{Term, eigen, bound, variable, app, Args, no_args, arg, Each, EachArg, Never, IsProperTerm, InScope, open_term, open_args, same_term, same_args}
-use Rattle.polarised_formulas.specs.Formula.{Formula, truth, falsity, atom, conj, disj, implies, for_all, exists, dual_of, open_at, EachInside, Tied, IsLkf}
-use Rattle.lkf_rules.specs.Scope.{is_scoped, are_scoped, may_be_cut}
+use Rattle.polarised_formulas.specs.Formula.{Formula, truth, falsity, atom, conj, disj, implies, for_all, exists, dual_of, open_at, EachInside, Tied, IsLkf, IsLjf, IsOfLogic}
+use Rattle.polarised_formulas.specs.declared.logic.Logic.{Logic}
+use Rattle.polarised_formulas.specs.declared.logic.Logic.TheVariants.{Lkf, Ljf}
+use Rattle.polarised_formulas.specs.declared.logic.Polarity.TheVariants.{Positive, Negative}
+use Rattle.polarised_formulas.specs.Scope.{is_scoped, are_scoped, has_implication, has_disjunction, may_be_cut}
 
 -- what follows of each leaf of a term
 module _ (e f b c v : ℕ → Type 0) (he : (n : ℕ) → e n → f n) (hb : (n : ℕ) → b n → c n) where
@@ -108,41 +111,79 @@ module _ (n : ℕ) where
   is_scoped-in_scope t h = is_scoped-each 0 t (Each-weaker (λ m. m < n) (λ m. m < n) Never (Tied 0) Never (λ m x. x) (λ k x. absurd x) t h)
 
   -- a formula that passes the test has its leaves in scope
-  pub EachInside-may_be_cut : (d : ℕ) (a : Formula) → may_be_cut n d a ≡ true → EachInside (λ m. m < n) Tied Never d a
-  EachInside-may_be_cut d (truth p) passes = tt
-  EachInside-may_be_cut d (falsity p) passes = tt
-  EachInside-may_be_cut d (atom positive name ts) passes = EachArg-are_scoped d ts passes
-  EachInside-may_be_cut d (conj p a b) passes =
-      let parts = and_parts (may_be_cut n d a) (may_be_cut n d b) passes in (EachInside-may_be_cut d a parts.0, EachInside-may_be_cut d b parts.1)
-  EachInside-may_be_cut d (disj p a b) passes =
-      let parts = and_parts (may_be_cut n d a) (may_be_cut n d b) passes in (EachInside-may_be_cut d a parts.0, EachInside-may_be_cut d b parts.1)
-  EachInside-may_be_cut d (implies a b) passes = cc
-  EachInside-may_be_cut d (for_all a) passes = EachInside-may_be_cut (suc d) a passes
-  EachInside-may_be_cut d (exists a) passes = EachInside-may_be_cut (suc d) a passes
+  pub EachInside-may_be_cut : (l : Logic) (d : ℕ) (a : Formula) → may_be_cut l n d a ≡ true → EachInside (λ m. m < n) Tied Never d a
+  EachInside-may_be_cut l d (truth p) passes = tt
+  EachInside-may_be_cut l d (falsity p) passes = tt
+  EachInside-may_be_cut l d (atom positive name ts) passes = EachArg-are_scoped d ts passes
+  EachInside-may_be_cut l d (conj p a b) passes =
+      let parts = and_parts (may_be_cut l n d a) (may_be_cut l n d b) passes in (EachInside-may_be_cut l d a parts.0, EachInside-may_be_cut l d b parts.1)
+  EachInside-may_be_cut l d (disj p a b) passes =
+      let both = and_parts (has_disjunction l p) (may_be_cut l n d a && may_be_cut l n d b) passes in
+      let parts = and_parts (may_be_cut l n d a) (may_be_cut l n d b) both.1 in (EachInside-may_be_cut l d a parts.0, EachInside-may_be_cut l d b parts.1)
+  EachInside-may_be_cut l d (implies a b) passes =
+      let both = and_parts (has_implication l) (may_be_cut l n d a && may_be_cut l n d b) passes in
+      let parts = and_parts (may_be_cut l n d a) (may_be_cut l n d b) both.1 in (EachInside-may_be_cut l d a parts.0, EachInside-may_be_cut l d b parts.1)
+  EachInside-may_be_cut l d (for_all a) passes = EachInside-may_be_cut l (suc d) a passes
+  EachInside-may_be_cut l d (exists a) passes = EachInside-may_be_cut l (suc d) a passes
 
-  -- and it is of LKF
-  pub IsLkf-may_be_cut : (d : ℕ) (a : Formula) → may_be_cut n d a ≡ true → IsLkf a
+  IsLkf-may_be_cut : (d : ℕ) (a : Formula) → may_be_cut Lkf n d a ≡ true → IsLkf a
   IsLkf-may_be_cut d (truth p) passes = tt
   IsLkf-may_be_cut d (falsity p) passes = tt
   IsLkf-may_be_cut d (atom positive name ts) passes = tt
   IsLkf-may_be_cut d (conj p a b) passes =
-      let parts = and_parts (may_be_cut n d a) (may_be_cut n d b) passes in (IsLkf-may_be_cut d a parts.0, IsLkf-may_be_cut d b parts.1)
+      let parts = and_parts (may_be_cut Lkf n d a) (may_be_cut Lkf n d b) passes in (IsLkf-may_be_cut d a parts.0, IsLkf-may_be_cut d b parts.1)
   IsLkf-may_be_cut d (disj p a b) passes =
-      let parts = and_parts (may_be_cut n d a) (may_be_cut n d b) passes in (IsLkf-may_be_cut d a parts.0, IsLkf-may_be_cut d b parts.1)
+      let parts = and_parts (may_be_cut Lkf n d a) (may_be_cut Lkf n d b) passes in (IsLkf-may_be_cut d a parts.0, IsLkf-may_be_cut d b parts.1)
   IsLkf-may_be_cut d (implies a b) passes = cc
   IsLkf-may_be_cut d (for_all a) passes = IsLkf-may_be_cut (suc d) a passes
   IsLkf-may_be_cut d (exists a) passes = IsLkf-may_be_cut (suc d) a passes
 
-  -- a formula of LKF with its leaves in scope passes the test
-  pub may_be_cut-each : (d : ℕ) (a : Formula) → EachInside (λ m. m < n) Tied Never d a → IsLkf a → may_be_cut n d a ≡ true
-  may_be_cut-each d (truth p) h lkf = refl
-  may_be_cut-each d (falsity p) h lkf = refl
-  may_be_cut-each d (atom positive name ts) h lkf = are_scoped-each d ts h
-  may_be_cut-each d (conj p a b) h lkf = rw (may_be_cut-each d a h.0 lkf.0, may_be_cut-each d b h.1 lkf.1)
-  may_be_cut-each d (disj p a b) h lkf = rw (may_be_cut-each d a h.0 lkf.0, may_be_cut-each d b h.1 lkf.1)
-  may_be_cut-each d (implies a b) h lkf = absurd lkf
-  may_be_cut-each d (for_all a) h lkf = may_be_cut-each (suc d) a h lkf
-  may_be_cut-each d (exists a) h lkf = may_be_cut-each (suc d) a h lkf
+  IsLjf-may_be_cut : (d : ℕ) (a : Formula) → may_be_cut Ljf n d a ≡ true → IsLjf a
+  IsLjf-may_be_cut d (truth p) passes = tt
+  IsLjf-may_be_cut d (falsity Positive) passes = tt
+  IsLjf-may_be_cut d (falsity Negative) passes = cc
+  IsLjf-may_be_cut d (atom positive name ts) passes = tt
+  IsLjf-may_be_cut d (conj p a b) passes =
+      let parts = and_parts (may_be_cut Ljf n d a) (may_be_cut Ljf n d b) passes in (IsLjf-may_be_cut d a parts.0, IsLjf-may_be_cut d b parts.1)
+  IsLjf-may_be_cut d (disj Positive a b) passes =
+      let parts = and_parts (may_be_cut Ljf n d a) (may_be_cut Ljf n d b) passes in (IsLjf-may_be_cut d a parts.0, IsLjf-may_be_cut d b parts.1)
+  IsLjf-may_be_cut d (disj Negative a b) passes = cc
+  IsLjf-may_be_cut d (implies a b) passes =
+      let parts = and_parts (may_be_cut Ljf n d a) (may_be_cut Ljf n d b) passes in (IsLjf-may_be_cut d a parts.0, IsLjf-may_be_cut d b parts.1)
+  IsLjf-may_be_cut d (for_all a) passes = IsLjf-may_be_cut (suc d) a passes
+  IsLjf-may_be_cut d (exists a) passes = IsLjf-may_be_cut (suc d) a passes
+
+  -- and it is of the logic
+  pub IsOfLogic-may_be_cut : (l : Logic) (d : ℕ) (a : Formula) → may_be_cut l n d a ≡ true → IsOfLogic l a
+  IsOfLogic-may_be_cut Lkf d a passes = IsLkf-may_be_cut d a passes
+  IsOfLogic-may_be_cut Ljf d a passes = IsLjf-may_be_cut d a passes
+
+  may_be_cut-lkf : (d : ℕ) (a : Formula) → EachInside (λ m. m < n) Tied Never d a → IsLkf a → may_be_cut Lkf n d a ≡ true
+  may_be_cut-lkf d (truth p) h of = refl
+  may_be_cut-lkf d (falsity p) h of = refl
+  may_be_cut-lkf d (atom positive name ts) h of = are_scoped-each d ts h
+  may_be_cut-lkf d (conj p a b) h of = rw (may_be_cut-lkf d a h.0 of.0, may_be_cut-lkf d b h.1 of.1)
+  may_be_cut-lkf d (disj p a b) h of = rw (may_be_cut-lkf d a h.0 of.0, may_be_cut-lkf d b h.1 of.1)
+  may_be_cut-lkf d (implies a b) h of = absurd of
+  may_be_cut-lkf d (for_all a) h of = may_be_cut-lkf (suc d) a h of
+  may_be_cut-lkf d (exists a) h of = may_be_cut-lkf (suc d) a h of
+
+  may_be_cut-ljf : (d : ℕ) (a : Formula) → EachInside (λ m. m < n) Tied Never d a → IsLjf a → may_be_cut Ljf n d a ≡ true
+  may_be_cut-ljf d (truth p) h of = refl
+  may_be_cut-ljf d (falsity Positive) h of = refl
+  may_be_cut-ljf d (falsity Negative) h of = absurd of
+  may_be_cut-ljf d (atom positive name ts) h of = are_scoped-each d ts h
+  may_be_cut-ljf d (conj p a b) h of = rw (may_be_cut-ljf d a h.0 of.0, may_be_cut-ljf d b h.1 of.1)
+  may_be_cut-ljf d (disj Positive a b) h of = rw (may_be_cut-ljf d a h.0 of.0, may_be_cut-ljf d b h.1 of.1)
+  may_be_cut-ljf d (disj Negative a b) h of = absurd of
+  may_be_cut-ljf d (implies a b) h of = rw (may_be_cut-ljf d a h.0 of.0, may_be_cut-ljf d b h.1 of.1)
+  may_be_cut-ljf d (for_all a) h of = may_be_cut-ljf (suc d) a h of
+  may_be_cut-ljf d (exists a) h of = may_be_cut-ljf (suc d) a h of
+
+  -- a formula of the logic with its leaves in scope passes the test
+  pub may_be_cut-each : (l : Logic) (d : ℕ) (a : Formula) → EachInside (λ m. m < n) Tied Never d a → IsOfLogic l a → may_be_cut l n d a ≡ true
+  may_be_cut-each Lkf d a h of = may_be_cut-lkf d a h of
+  may_be_cut-each Ljf d a h of = may_be_cut-ljf d a h of
 
 -- opening keeps a formula of LKF
 pub IsLkf-open_at : (k : ℕ) (t : Term) (a : Formula) → IsLkf a → IsLkf (open_at k t a)
@@ -179,3 +220,15 @@ mutual
   same_args-equal no_args no_args h = refl
   same_args-equal (arg t ts) (arg u us) h = grind (arith, same_term-equal t u, same_args-equal ts us)
   same_args-equal _ _ h = grind arith
+
+-- a term passes the test with itself
+mutual
+  pub same_term-reflexive : (t : Term) → same_term t t ≡ true
+  same_term-reflexive (eigen n) = grind arith
+  same_term-reflexive (bound n) = grind arith
+  same_term-reflexive (variable n) = grind arith
+  same_term-reflexive (app f ts) = grind (arith, same_args-reflexive ts)
+
+  pub same_args-reflexive : (ts : Args) → same_args ts ts ≡ true
+  same_args-reflexive no_args = refl
+  same_args-reflexive (arg t ts) = grind (arith, same_term-reflexive t, same_args-reflexive ts)
