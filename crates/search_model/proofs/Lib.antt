@@ -4,6 +4,10 @@ pub mod SpelledFacts
 pub mod BindFacts
 pub mod ExtendFacts
 pub mod Sound
+pub mod ChoiceFacts
+pub mod OpenFormulaFacts
+pub mod TableFacts
+pub mod OddFacts
 pub mod SolveFacts
 pub mod Lowering
 pub mod Covered

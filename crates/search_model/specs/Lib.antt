@@ -1,6 +1,9 @@
 pub mod Run
 pub mod Search
 pub mod Lawful
+pub mod OpenFormula
+pub mod Table
+pub mod Odd
 pub mod Solve
 pub mod Renaming
 pub mod States

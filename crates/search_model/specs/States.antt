@@ -6,6 +6,7 @@ use Rattle.fpc_terms.specs.Equality.{Equality, same, parts, older, walk, clash, 
 use Rattle.fpc_terms.specs.Open.{Level, level_of, lower}
 use Rattle.fpc_terms.specs.Term.{Term, Args, eigen, bound, variable, app, no_args, count}
 use Rattle.clause_language.specs.declared.clause.Clause.{Clause}
+use Rattle.clause_language.specs.LeastModel.{fits}
 use Rattle.search_model.specs.Run.{Ending, ended, spent, run}
 use Rattle.search_model.specs.Search as search
 use Rattle.search_model.specs.Solve.{Nothing, no_calculus}
@@ -85,7 +86,7 @@ raise k spent = spent
 
 -- the run of the search over clauses from a state
 abbrev pub running : List Clause → ℕ → search.State Nothing Nothing → Ending (search.Answer Nothing Nothing)
-running clauses units q = run search.answer (search.step no_calculus clauses) units q
+running clauses units q = run search.answer (search.step no_calculus fits clauses) units q
 
 -- the run behind what took some of the units, and whether there were enough
 abbrev pub on_from : List Clause → ℕ → ℕ → Bool → search.State Nothing Nothing → Ending (search.Answer Nothing Nothing)

@@ -1,4 +1,5 @@
 //! Laws over the definition of the search, each the contract of a function with nothing to run.
+ghost use Rattle.search_model.specs.Odd.{NaturalIsApart};
 ghost use Rattle.search_model.specs.Renaming.{AnsweredOnce};
 ghost use Rattle.search_model.specs.Solve.{OutcomeIsSettled};
 
@@ -10,4 +11,10 @@ pub fn outcome_is_settled()
 /// The answer to an atom over a definition hangs on what the two say, and on no numbering of their names.
 pub fn one_solution()
     ensures { AnsweredOnce }
+{}
+
+/// That goal lists follow the terms for an item's variables has to be asked of a calculus: a lawful
+/// and complete one may be otherwise.
+pub fn natural_is_apart()
+    ensures { NaturalIsApart }
 {}
