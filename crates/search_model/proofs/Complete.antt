@@ -8,13 +8,13 @@ use Rattle.fpc_terms.specs.Term.{Term, put}
 use Rattle.fpc_terms.specs.Open.{IsGround, IsOpen, AreOpen, Level, level_of, IsScopedAt, IsClosing}
 use Rattle.fpc_terms.specs.Equality.{equality, walked_node}
 use Rattle.fpc_terms.proofs.EqualityFacts.{means_equality, equality_walks}
-use Rattle.fpc_terms.proofs.LevelFacts.{level_of-none}
 use Rattle.clause_language.specs.declared.clause.Clause.{Clause}
 use Rattle.clause_language.specs.LeastModel.{AreOpenClauses}
 use Rattle.search_model.specs.Run.{run, ended}
 use Rattle.search_model.specs.Search.{SearchCalculus, Choice, call, equate, emit, item, between, walking, Answer, rejected, with_goals, answer_of, answer}
 use Rattle.search_model.specs.Search.{by_clauses, taken, step_of, step, start, search}
 use Rattle.search_model.specs.Lawful.{IsGoal, AreGoals, IsLawful, IsComplete, IsChoice}
+use Rattle.search_model.proofs.ClosingFacts.{closing_free}
 use Rattle.search_model.proofs.GoalsMet.{IsMet, AreMet}
 use Rattle.search_model.proofs.Fine.{IsFine, IsStateFine}
 use Rattle.search_model.proofs.RunFacts.{kept}
@@ -87,7 +87,7 @@ module _ (C : SearchCalculus) (choice : Choice) (clauses : List Clause) where
   start_covered g asked variables s ground_at met = inl (s, record { closing = closing; met = each; asked_is = refl })
     where
       closing : IsClosing (replicate variables None) s
-      closing = record { ground = ground_at; in_scope = λ n. subst (λ l. IsScopedAt l (s n)) (sym (level_of-none variables n)) tt }
+      closing = closing_free variables s ground_at
 
       each : AreMet C clauses s (g ∷ [])
       each = All-cons (IsMet C clauses s) g [] met (All-nil (IsMet C clauses s))

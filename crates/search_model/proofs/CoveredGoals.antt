@@ -1,36 +1,29 @@
 -- A call and an item, where the goal lists that may stand for them keep an alternative covered.
-use Rattle.std.specs.Prelude.{◌≡◌, ℕ, zero, suc, ◌+◌, ◌-◌, ◌<◌, ◌≤◌, Bool, true, false, nat_lt, None, List, [], ◌∷◌, ◌++◌, map, length, get_or, replicate, Contains}
-use Rattle.std.proofs.Common.{sym, ap, ◌∙◌, subst, inl, inr, ⊎_elim, arith}
-use Rattle.std.proofs.lemmas.Bool.{cases_lt, lt-ltb, le-ltb, cond-true, cond-false, cond_both}
-use Rattle.std.proofs.lemmas.List.{get_or_append_left, get_or-append_right}
-use Rattle.std.proofs.lemmas.List.Elements.{All-nil, All-cons, All-head, All-append, Contains-append_right}
+use Rattle.std.specs.Prelude.{◌≡◌, ℕ, zero, suc, ◌+◌, ◌<◌, Bool, true, false, None}
+use Rattle.std.specs.Prelude.{List, [], ◌∷◌, ◌++◌, map, length, get_or, replicate, Contains}
+use Rattle.std.proofs.Common.{sym, ap, ◌∙◌, subst, inl, inr, arith}
+use Rattle.std.proofs.lemmas.List.Elements.{All-nil, All-cons, All-head, All-append}
+use Rattle.std.proofs.lemmas.List.Elements.{Contains-append_right}
 use mathlib.Core.Path.{fun_ext, refl}
 use Rattle.fpc_terms.specs.Term.{Term, Always, Never, put}
-use Rattle.fpc_terms.specs.Open.{IsGround, AreOpen, later, Level, level_of, IsScopedAt, IsClosing}
+use Rattle.fpc_terms.specs.Open.{AreOpen, later, Level, IsClosing}
 use Rattle.fpc_terms.proofs.PutFacts.{puts-puts, put_agrees, puts_agree}
-use Rattle.fpc_terms.proofs.LevelFacts.{level_of-none}
 use Rattle.clause_language.specs.declared.atom.Atom.{Atom}
 use Rattle.clause_language.specs.declared.clause.Clause.{Clause}
 use Rattle.clause_language.specs.LeastModel.{put_atom, IsInstance, AllHold, Holds}
-use Rattle.clause_language.proofs.LeastModelFacts.{all_hold_first, all_hold_rest, holds_inversion, put_atoms-put_atoms}
-use Rattle.search_model.specs.Search.{SearchCalculus, Choice, call, equate, emit, item, GoalList, extended, with_goals, where_it_fits, by_clause, by_clauses}
+use Rattle.clause_language.proofs.LeastModelFacts.{all_hold_first, all_hold_rest, holds_inversion}
+use Rattle.clause_language.proofs.LeastModelFacts.{put_atoms-put_atoms}
+use Rattle.search_model.specs.Search.{SearchCalculus, Choice, call, equate, emit, item, GoalList}
+use Rattle.search_model.specs.Search.{extended, with_goals, where_it_fits, by_clause, by_clauses}
 use Rattle.search_model.specs.Lawful.{IsGoal, AreGoals, both, IsLawful, IsComplete, IsChoice}
+use Rattle.search_model.proofs.ClosingFacts.{both_below, both_later, closing_both, closing_free}
 use Rattle.search_model.proofs.GoalsMet.{IsMet, AreMet, spelled_met}
-use Rattle.search_model.proofs.Covered.{GoalOf, AlternativeOf, IsCoveredBy, IsCovered, IsOneCovered, equalities_met, rest_covered}
+use Rattle.search_model.proofs.Covered.{GoalOf, AlternativeOf, IsCoveredBy, IsCovered, IsOneCovered}
+use Rattle.search_model.proofs.Covered.{equalities_met, rest_covered}
 
 -- a calculus's goal lists
 abbrev GoalListOf : SearchCalculus → Type 0
 GoalListOf C = GoalList C.ItemOf C.StepOf
-
--- of two closings the first one below k, and the second one from k on
-both_below : (k : ℕ) (s r : ℕ → Term) (n : ℕ) → n < k → s n ≡ both k s r n
-both_below k s r n h = sym (cond-true (nat_lt n k) (s n) (r (n - k)) (lt-ltb n k h))
-
-both_behind : (k : ℕ) (s r : ℕ → Term) (n : ℕ) → both k s r (k + n) ≡ r n
-both_behind k s r n =
-    let past : k ≤ k + n = omega arith in
-    let back : k + n - k ≡ n = omega arith in
-    cond-false (nat_lt (k + n) k) (s (k + n)) (r (k + n - k)) (le-ltb (k + n) k past) ∙ ap r back
 
 module _ (C : SearchCalculus) (clauses : List Clause) where
   module _ (lawful : IsLawful C clauses) (levels : List Level) (s r : ℕ → Term) (same : (n : ℕ) → n < length levels → s n ≡ r n) where
@@ -92,7 +85,7 @@ module _ (C : SearchCalculus) (clauses : List Clause) where
     wider = both size s i.terms
 
     renamed : (λ n. wider (size + n)) ≡ i.terms
-    renamed = fun_ext (both_behind size s i.terms)
+    renamed = fun_ext (both_later size s i.terms)
 
     arguments_same : map (put wider) a.arguments ≡ map (put wider) (map (put (later size)) i.clause.head.arguments)
     arguments_same =
@@ -121,18 +114,9 @@ module _ (C : SearchCalculus) (clauses : List Clause) where
     more_levels = levels ++ replicate i.clause.variables None
 
     pub clause_closing : IsClosing more_levels wider
-    clause_closing = record { ground = ground_at; in_scope = λ n. ⊎_elim (within n) (behind n) (cases_lt n size) }
-      where
-        ground_at : (n : ℕ) → IsGround (wider n)
-        ground_at n = cond_both (nat_lt n size) (s n) (i.terms (n - size)) IsGround (λ _. closing.ground n) (λ _. i.ground (n - size))
-
-        within : (n : ℕ) → n < size → IsScopedAt (level_of more_levels n) (wider n)
-        within n l =
-            rw (get_or_append_left levels (replicate i.clause.variables None) None n l) (subst (IsScopedAt (level_of levels n)) (both_below size s i.terms n l) (closing.in_scope n))
-
-        behind : (n : ℕ) → size ≤ n → IsScopedAt (level_of more_levels n) (wider n)
-        behind n l =
-            rw (get_or-append_right levels (replicate i.clause.variables None) size n None refl l, level_of-none i.clause.variables (n - size)) tt
+    clause_closing =
+        closing_both levels (replicate i.clause.variables None) s i.terms closing
+        (closing_free i.clause.variables i.terms i.ground)
 
   module _ (z : List Term) (a : AlternativeOf C) (others : List (AlternativeOf C)) where
     -- other alternatives stay covered behind those of the goal lists

@@ -5,5 +5,6 @@ pub mod OpenFormula
 pub mod Table
 pub mod Odd
 pub mod Solve
+pub mod EqualityRun
 pub mod Renaming
 pub mod States

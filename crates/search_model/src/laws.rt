@@ -1,4 +1,5 @@
 //! Laws over the definition of the search, each the contract of a function with nothing to run.
+ghost use Rattle.search_model.specs.EqualityRun.{EqualityIsUnified};
 ghost use Rattle.search_model.specs.Odd.{NaturalIsApart};
 ghost use Rattle.search_model.specs.Renaming.{AnsweredOnce};
 ghost use Rattle.search_model.specs.Solve.{OutcomeIsSettled};
@@ -17,4 +18,11 @@ pub fn one_solution()
 /// and complete one may be otherwise.
 pub fn natural_is_apart()
     ensures { NaturalIsApart }
+{}
+
+/// A search takes an equality as unification does: where unification ends with some units, the search
+/// goes on after as many, from the alternative as it is then or without it, and it is spent where
+/// unification is.
+pub fn equality_is_unified()
+    ensures { EqualityIsUnified }
 {}
