@@ -160,12 +160,18 @@ joined : (names : List (List ℕ)) (d : Definition) (c : Certificate) (p : Progr
     → AreDifferent (names_of names d.declared ++ names_of names c.declared) → IsOpen c.variables c.term
     → IsDefinitionNamedBelow (length names) d → IsCertificateNamedBelow (length names) c → IsJoined d c p → HaveWords names p.ids → IsProgram names p
 joined names d c p first second different term_open d_named c_named j words = record {
-  formulas = rw (j.logic, j.declared) (All-append (IsDeclarationOf d.logic) d.declared c.declared first.formulas second.formulas);
-  different = rw j.declared (subst AreDifferent (sym (names_of-append names d.declared c.declared)) different);
-  clauses_open = rw j.clauses (All-append IsOpenClause d.clauses c.clauses first.are_open second.are_open);
-  few = rw j.clauses (All-append IsOfFewArguments d.clauses c.clauses first.few second.few);
-  term_open = rw (j.variables, j.term) term_open;
-  declared_named = rw j.declared (declared-named (length names) d.declared c.declared d_named.0 c_named.0);
+  is_open = record {
+    formulas = rw (j.logic, j.declared)
+        (All-append (IsDeclarationOf d.logic) d.declared c.declared first.formulas second.formulas);
+    clauses_open = rw j.clauses
+        (All-append IsOpenClause d.clauses c.clauses first.are_open second.are_open);
+    few = rw j.clauses (All-append IsOfFewArguments d.clauses c.clauses first.few second.few);
+    term_open = rw (j.variables, j.term) term_open;
+  };
+  different = rw j.declared
+      (subst AreDifferent (sym (names_of-append names d.declared c.declared)) different);
+  declared_named = rw j.declared
+      (declared-named (length names) d.declared c.declared d_named.0 c_named.0);
   clauses_named = rw j.clauses (clauses-named (length names) d.clauses c.clauses d_named.1 c_named.1);
   term_named = rw j.term c_named.2;
   words = words;

@@ -65,13 +65,18 @@ HasFewArguments a = length a.arguments ≤ 255
 abbrev pub IsOfFewArguments : Clause → Type 0
 IsOfFewArguments c = HasFewArguments c.head × All HasFewArguments c.body
 
--- What every search asks of a program, for a table of names.
-pub record IsProgram (names : List (List ℕ)) (p : Program) : Type 0 where
+-- What a search asks of a program without its names: its formulas are declarations of the logic, its
+-- clauses are open and have few arguments, and the certificate's term is open.
+pub record IsOpenProgram (p : Program) : Type 0 where
   pub formulas : All (IsDeclarationOf p.logic) p.declared
-  pub different : AreDifferent (names_of names p.declared)
   pub clauses_open : AreOpenClauses p.clauses
   pub few : All IsOfFewArguments p.clauses
   pub term_open : IsOpen p.variables p.term
+
+-- A program, for a table of names: it is open, and its names and words are those of the table.
+pub record IsProgram (names : List (List ℕ)) (p : Program) : Type 0 where
+  pub is_open : IsOpenProgram p
+  pub different : AreDifferent (names_of names p.declared)
   pub declared_named : AreDeclaredNamedBelow (length names) p.declared
   pub clauses_named : AreClausesNamedBelow (length names) p.clauses
   pub term_named : HasNamesBelow (length names) p.term

@@ -2,6 +2,8 @@ pub mod Name
 pub mod Term
 pub mod Open
 pub mod Equality
+pub mod Run
+pub mod Unification
 pub mod Scope
 pub mod Cells
 pub mod Substitution

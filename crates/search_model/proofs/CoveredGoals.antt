@@ -1,39 +1,32 @@
 -- A call and an item, where the goal lists that may stand for them keep an alternative covered.
-use Rattle.std.specs.Prelude.{◌≡◌, ℕ, zero, suc, ◌+◌, ◌-◌, ◌<◌, ◌≤◌, Bool, true, false, nat_lt, nat_eq, None, List, [], ◌∷◌, ◌++◌, map, length, get_or, replicate, Contains}
-use Rattle.std.proofs.Common.{sym, ap, ◌∙◌, subst, inl, inr, ⊎_elim, arith}
-use Rattle.std.proofs.lemmas.Bool.{cases_lt, lt-ltb, le-ltb, cond-true, cond-false, cond_both, eq-eqb, and_from}
-use Rattle.std.proofs.lemmas.List.{length-map, get_or_append_left, get_or-append_right}
-use Rattle.std.proofs.lemmas.List.Elements.{All-nil, All-cons, All-head, All-append, Contains-append_right}
+use Rattle.std.specs.Prelude.{◌≡◌, ℕ, zero, suc, ◌+◌, ◌<◌, Bool, true, false, None}
+use Rattle.std.specs.Prelude.{List, [], ◌∷◌, ◌++◌, map, length, get_or, replicate, Contains}
+use Rattle.std.proofs.Common.{sym, ap, ◌∙◌, subst, inl, inr, arith}
+use Rattle.std.proofs.lemmas.List.Elements.{All-nil, All-cons, All-head, All-append}
+use Rattle.std.proofs.lemmas.List.Elements.{Contains-append_right}
 use mathlib.Core.Path.{fun_ext, refl}
 use Rattle.fpc_terms.specs.Term.{Term, Always, Never, put}
-use Rattle.fpc_terms.specs.Open.{IsGround, AreOpen, later, Level, level_of, IsScopedAt, IsClosing}
+use Rattle.fpc_terms.specs.Open.{AreOpen, later, Level, IsClosing}
 use Rattle.fpc_terms.proofs.PutFacts.{puts-puts, put_agrees, puts_agree}
-use Rattle.fpc_terms.proofs.LevelFacts.{level_of-none}
 use Rattle.clause_language.specs.declared.atom.Atom.{Atom}
 use Rattle.clause_language.specs.declared.clause.Clause.{Clause}
-use Rattle.clause_language.specs.LeastModel.{put_atom, IsInstance, AllHold, Holds, fits}
-use Rattle.clause_language.proofs.LeastModelFacts.{all_hold_first, all_hold_rest, holds_inversion, put_atoms-put_atoms}
-use Rattle.search_model.specs.Search.{SearchCalculus, call, equate, emit, item, GoalList, extended, with_goals, where_it_fits, by_clause, by_clauses}
-use Rattle.search_model.specs.Lawful.{IsGoal, AreGoals, both, IsComplete}
+use Rattle.clause_language.specs.LeastModel.{put_atom, IsInstance, AllHold, Holds}
+use Rattle.clause_language.proofs.LeastModelFacts.{all_hold_first, all_hold_rest, holds_inversion}
+use Rattle.clause_language.proofs.LeastModelFacts.{put_atoms-put_atoms}
+use Rattle.search_model.specs.Search.{SearchCalculus, Choice, call, equate, emit, item, GoalList}
+use Rattle.search_model.specs.Search.{extended, with_goals, where_it_fits, by_clause, by_clauses}
+use Rattle.search_model.specs.Lawful.{IsGoal, AreGoals, both, IsLawful, IsComplete, IsChoice}
+use Rattle.search_model.proofs.ClosingFacts.{both_below, both_later, closing_both, closing_free}
 use Rattle.search_model.proofs.GoalsMet.{IsMet, AreMet, spelled_met}
-use Rattle.search_model.proofs.Covered.{GoalOf, AlternativeOf, IsCoveredBy, IsCovered, IsOneCovered, equalities_met, rest_covered}
+use Rattle.search_model.proofs.Covered.{GoalOf, AlternativeOf, IsCoveredBy, IsCovered, IsOneCovered}
+use Rattle.search_model.proofs.Covered.{equalities_met, rest_covered}
 
 -- a calculus's goal lists
 abbrev GoalListOf : SearchCalculus → Type 0
 GoalListOf C = GoalList C.ItemOf C.StepOf
 
--- of two closings the first one below k, and the second one from k on
-both_below : (k : ℕ) (s r : ℕ → Term) (n : ℕ) → n < k → s n ≡ both k s r n
-both_below k s r n h = sym (cond-true (nat_lt n k) (s n) (r (n - k)) (lt-ltb n k h))
-
-both_behind : (k : ℕ) (s r : ℕ → Term) (n : ℕ) → both k s r (k + n) ≡ r n
-both_behind k s r n =
-    let past : k ≤ k + n = omega arith in
-    let back : k + n - k ≡ n = omega arith in
-    cond-false (nat_lt (k + n) k) (s (k + n)) (r (k + n - k)) (le-ltb (k + n) k past) ∙ ap r back
-
 module _ (C : SearchCalculus) (clauses : List Clause) where
-  module _ (complete : IsComplete C clauses) (levels : List Level) (s r : ℕ → Term) (same : (n : ℕ) → n < length levels → s n ≡ r n) where
+  module _ (lawful : IsLawful C clauses) (levels : List Level) (s r : ℕ → Term) (same : (n : ℕ) → n < length levels → s n ≡ r n) where
     -- closings that agree on a goal's variables meet it alike
     met_alike : (g : GoalOf C) → IsGoal C levels g → IsMet C clauses s g → IsMet C clauses r g
     met_alike (call a) o h =
@@ -44,7 +37,7 @@ module _ (C : SearchCalculus) (clauses : List Clause) where
         let second : put s u ≡ put r u = put_agrees Always Never (λ n. n < length levels) s r same u o.1 in
         sym first ∙ h ∙ second
     met_alike (emit e) o h = tt
-    met_alike (item x) o h = subst (λ y. (steps : List C.StepOf) × C.Completed y steps) (complete.item_agrees (length levels) s r same x o.0) h
+    met_alike (item x) o h = subst (λ y. (steps : List C.StepOf) × C.Completed y steps) (lawful.item_agrees (length levels) s r same x o.0) h
 
     all_met_alike : (goals : List (GoalOf C)) → AreGoals C levels goals → AreMet C clauses s goals → AreMet C clauses r goals
     all_met_alike goals are met = λ k d l. met_alike (get_or goals k d) (are k d l) (met k d l)
@@ -58,15 +51,17 @@ module _ (C : SearchCalculus) (clauses : List Clause) where
   fitting_behind true d e es h = Contains-append_right (d ∷ []) es e h
   fitting_behind false d e es h = h
 
-  -- each clause that fits the call of an atom answers it
-  module _ (a : Atom) (k : ℕ) (c : Clause) (fit : fits a c.head ≡ true) where
-    clause_answers : (cs : List Clause) (j : ℕ) → j < length cs → get_or cs j c ≡ c → Contains (by_clauses C a k cs) (by_clause C a k c)
+  -- each clause that is chosen for the call of an atom answers it
+  module _ (choice : Choice) (a : Atom) (k : ℕ) (c : Clause) (chosen : choice a c.head ≡ true) where
+    clause_answers : (cs : List Clause) (j : ℕ) → j < length cs → get_or cs j c ≡ c
+        → Contains (by_clauses C choice a k cs) (by_clause C a k c)
     clause_answers [] j l e = let n : ⊥ = omega arith in absurd n
     clause_answers (d ∷ cs) zero l e =
-        let here = fitting_here (fits a c.head) (by_clause C a k c) (by_clauses C a k cs) fit in
-        subst (λ x. Contains (by_clauses C a k (x ∷ cs)) (by_clause C a k c)) (sym e) here
+        let here = fitting_here (choice a c.head) (by_clause C a k c) (by_clauses C choice a k cs) chosen in
+        subst (λ x. Contains (by_clauses C choice a k (x ∷ cs)) (by_clause C a k c)) (sym e) here
     clause_answers (d ∷ cs) (suc j) l e =
-        fitting_behind (fits a d.head) (by_clause C a k d) (by_clause C a k c) (by_clauses C a k cs) (clause_answers cs j (omega arith) e)
+        fitting_behind (choice a d.head) (by_clause C a k d) (by_clause C a k c) (by_clauses C choice a k cs)
+        (clause_answers cs j (omega arith) e)
 
   -- the calls of atoms that hold
   calls_met : (s r : ℕ → Term) (atoms : List Atom) → AllHold clauses (map (put_atom s) (map (put_atom r) atoms))
@@ -90,7 +85,7 @@ module _ (C : SearchCalculus) (clauses : List Clause) where
     wider = both size s i.terms
 
     renamed : (λ n. wider (size + n)) ≡ i.terms
-    renamed = fun_ext (both_behind size s i.terms)
+    renamed = fun_ext (both_later size s i.terms)
 
     arguments_same : map (put wider) a.arguments ≡ map (put wider) (map (put (later size)) i.clause.head.arguments)
     arguments_same =
@@ -102,17 +97,11 @@ module _ (C : SearchCalculus) (clauses : List Clause) where
     body_same : atoms ≡ map (put_atom wider) (map (put_atom (later size)) i.clause.body)
     body_same = i.body_is ∙ ap (λ r. map (put_atom r) i.clause.body) (sym renamed) ∙ sym (put_atoms-put_atoms wider (later size) i.clause.body)
 
-    clause_fits : fits a i.clause.head ≡ true
-    clause_fits =
-        let head : Atom = i.clause.head in
-        let name : a.name ≡ head.name = ap (λ b. b.name) i.head_is in
-        let middle : length (map (put s) a.arguments) ≡ length (map (put i.terms) head.arguments) = ap (λ b. length b.arguments) i.head_is in
-        let lengths : length a.arguments ≡ length head.arguments = sym (length-map a.arguments (put s)) ∙ middle ∙ length-map head.arguments (put i.terms) in
-        and_from (nat_eq a.name head.name) (nat_eq (length a.arguments) (length head.arguments)) (eq-eqb a.name head.name name)
-        (eq-eqb (length a.arguments) (length head.arguments) lengths)
-
-    pub clause_given : Contains (by_clauses C a size clauses) (by_clause C a size i.clause)
-    clause_given = clause_answers a size i.clause clause_fits clauses i.is_one.0 i.is_one.1 i.is_one.2
+    pub clause_given : (choice : Choice) → IsChoice choice
+        → Contains (by_clauses C choice a size clauses) (by_clause C a size i.clause)
+    clause_given choice is_choice =
+        clause_answers choice a size i.clause (is_choice.each a i.clause.head s i.terms i.head_is) clauses
+        i.is_one.0 i.is_one.1 i.is_one.2
 
     pub clause_met : AreMet C clauses wider (by_clause C a size i.clause).goals
     clause_met =
@@ -125,18 +114,9 @@ module _ (C : SearchCalculus) (clauses : List Clause) where
     more_levels = levels ++ replicate i.clause.variables None
 
     pub clause_closing : IsClosing more_levels wider
-    clause_closing = record { ground = ground_at; in_scope = λ n. ⊎_elim (within n) (behind n) (cases_lt n size) }
-      where
-        ground_at : (n : ℕ) → IsGround (wider n)
-        ground_at n = cond_both (nat_lt n size) (s n) (i.terms (n - size)) IsGround (λ _. closing.ground n) (λ _. i.ground (n - size))
-
-        within : (n : ℕ) → n < size → IsScopedAt (level_of more_levels n) (wider n)
-        within n l =
-            rw (get_or_append_left levels (replicate i.clause.variables None) None n l) (subst (IsScopedAt (level_of levels n)) (both_below size s i.terms n l) (closing.in_scope n))
-
-        behind : (n : ℕ) → size ≤ n → IsScopedAt (level_of more_levels n) (wider n)
-        behind n l =
-            rw (get_or-append_right levels (replicate i.clause.variables None) size n None refl l, level_of-none i.clause.variables (n - size)) tt
+    clause_closing =
+        closing_both levels (replicate i.clause.variables None) s i.terms closing
+        (closing_free i.clause.variables i.terms i.ground)
 
   module _ (z : List Term) (a : AlternativeOf C) (others : List (AlternativeOf C)) where
     -- other alternatives stay covered behind those of the goal lists
@@ -151,7 +131,8 @@ module _ (C : SearchCalculus) (clauses : List Clause) where
     one_covered (d ∷ es) zero e l same h = inl (subst (λ x. IsCovered C clauses z (extended a x)) (sym same) h)
     one_covered (d ∷ es) (suc j) e l same h = inr (one_covered es j e (omega arith) same h)
 
-  module _ (complete : IsComplete C clauses) (z : List Term) (a : AlternativeOf C) where
+  module _ (lawful : IsLawful C clauses) (complete : IsComplete C clauses) (z : List Term)
+      (a : AlternativeOf C) where
     -- the goals of a goal list that are met stand for a goal
     extended_covered : (g : GoalOf C) (e : GoalListOf C) (s r : ℕ → Term) → AreGoals C a.levels a.goals → AreOpen (length a.levels) a.asked
         → IsCoveredBy C clauses z (with_goals a (g ∷ a.goals)) s → IsClosing (a.levels ++ e.new) (both (length a.levels) s r)
@@ -160,23 +141,28 @@ module _ (C : SearchCalculus) (clauses : List Clause) where
         let wide : ℕ → Term = both (length a.levels) s r in
         let alike : (n : ℕ) → n < length a.levels → s n ≡ wide n = both_below (length a.levels) s r in
         let rest : IsCoveredBy C clauses z a s = rest_covered C clauses z a g s c in
-        let left : AreMet C clauses wide a.goals = all_met_alike complete a.levels s wide alike a.goals are rest.met in
+        let left : AreMet C clauses wide a.goals = all_met_alike lawful a.levels s wide alike a.goals are rest.met in
         let asked : map (put s) a.asked ≡ map (put wide) a.asked = puts_agree Always Never (λ n. n < length a.levels) s wide alike a.asked open_asked in
         (wide, record { closing = closing; met = All-append (IsMet C clauses wide) e.goals a.goals met left; asked_is = sym asked ∙ c.asked_is })
 
     module _ (others : List (AlternativeOf C)) (are : AreGoals C a.levels a.goals) (open_asked : AreOpen (length a.levels) a.asked) (s : ℕ → Term) where
       -- a call that holds
-      pub call_covered : (b : Atom) → AreOpen (length a.levels) b.arguments → IsCoveredBy C clauses z (with_goals a (call b ∷ a.goals)) s
-          → IsOneCovered C clauses z (map (extended a) (by_clauses C b (length a.levels) clauses) ++ others)
-      call_covered b open_arguments c =
+      pub call_covered : (choice : Choice) → IsChoice choice → (b : Atom)
+          → AreOpen (length a.levels) b.arguments
+          → IsCoveredBy C clauses z (with_goals a (call b ∷ a.goals)) s
+          → IsOneCovered C clauses z
+          (map (extended a) (by_clauses C choice b (length a.levels) clauses) ++ others)
+      call_covered choice is_choice b open_arguments c =
           let holds : Holds clauses (put_atom s b) = All-head (IsMet C clauses s) (call b) a.goals c.met in
           let found : (atoms : List Atom) × IsInstance clauses (put_atom s b) atoms × AllHold clauses atoms = holds_inversion clauses (put_atom s b) holds in
           let i : IsInstance clauses (put_atom s b) found.0 = found.1 in
           let e : GoalListOf C = by_clause C b (length a.levels) i.clause in
-          let given : Contains (by_clauses C b (length a.levels) clauses) e = clause_given a.levels b open_arguments s c.closing found.0 i found.2 in
+          let given : Contains (by_clauses C choice b (length a.levels) clauses) e =
+          clause_given a.levels b open_arguments s c.closing found.0 i found.2 choice is_choice in
           let closing = clause_closing a.levels b open_arguments s c.closing found.0 i found.2 in
           let met = clause_met a.levels b open_arguments s c.closing found.0 i found.2 in
-          one_covered z a others (by_clauses C b (length a.levels) clauses) given.0 e given.1 given.2 (extended_covered (call b) e s i.terms are open_asked c closing met)
+          one_covered z a others (by_clauses C choice b (length a.levels) clauses) given.0 e given.1 given.2
+          (extended_covered (call b) e s i.terms are open_asked c closing met)
 
       -- an item that is completed
       pub item_covered : (x : C.ItemOf) → IsGoal C a.levels (item x) → IsCoveredBy C clauses z (with_goals a (item x ∷ a.goals)) s

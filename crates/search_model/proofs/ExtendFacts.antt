@@ -13,8 +13,8 @@ use Rattle.clause_language.proofs.LeastModelFacts.{all_hold_none, all_hold_also,
 use Rattle.clause_language.specs.declared.atom.Atom.{Atom}
 use Rattle.clause_language.specs.declared.clause.Clause.{Clause}
 use Rattle.clause_language.specs.LeastModel.{put_atom, IsInstance, AllHold, AreOpenAtoms, IsOpenClause, AreOpenClauses, fits}
-use Rattle.search_model.specs.Search.{SearchCalculus, Goal, call, equate, item, GoalList, Alternative, equalities, extended, with_goals, by_clause, by_clauses, where_it_fits}
-use Rattle.search_model.specs.Lawful.{Spelled, IsGoal, AreGoals, IsLawful}
+use Rattle.search_model.specs.Search.{SearchCalculus, Choice, Goal, call, equate, item, GoalList, Alternative, equalities, extended, with_goals, by_clause, by_clauses, where_it_fits}
+use Rattle.search_model.specs.Lawful.{Spelled, IsGoal, AreGoals, IsLawful, IsChoice}
 use Rattle.search_model.proofs.Fine.{IsFine, AreFine}
 use Rattle.search_model.proofs.SpelledFacts.{length_more, spelled_parts, goals_more}
 
@@ -135,13 +135,17 @@ module _ (C : SearchCalculus) (clauses : List Clause) (levels : List Level) (b :
   where_it_fits_entries false e es h hs = hs
 
   -- each goal list for a call may replace it
-  pub clauses_entries : (cs : List Clause) → All (Contains clauses) cs → AreOpenClauses cs
-      → All (IsEntry C clauses levels (call b)) (by_clauses C b (length levels) cs)
-  clauses_entries [] ones opens = All-nil (IsEntry C clauses levels (call b))
-  clauses_entries (c ∷ cs) ones opens =
-      where_it_fits_entries (fits b c.head) (by_clause C b (length levels) c) (by_clauses C b (length levels) cs)
-      (clause_entry c (All-head (Contains clauses) c cs ones) (All-head IsOpenClause c cs opens))
-      (clauses_entries cs (All-tail (Contains clauses) c cs ones) (All-tail IsOpenClause c cs opens))
+  module _ (choice : Choice) (is_choice : IsChoice choice) where
+    pub clauses_entries : (cs : List Clause) → All (Contains clauses) cs → AreOpenClauses cs
+        → All (IsEntry C clauses levels (call b)) (by_clauses C choice b (length levels) cs)
+    clauses_entries [] ones opens = All-nil (IsEntry C clauses levels (call b))
+    clauses_entries (c ∷ cs) ones opens =
+        let one = All-head (Contains clauses) c cs ones in
+        let c_open = All-head IsOpenClause c cs opens in
+        where_it_fits_entries (choice b c.head) (by_clause C b (length levels) c)
+        (by_clauses C choice b (length levels) cs)
+        (λ e. clause_entry c one c_open (is_choice.only b c.head e))
+        (clauses_entries cs (All-tail (Contains clauses) c cs ones) (All-tail IsOpenClause c cs opens))
 
 module _ (C : SearchCalculus) (clauses : List Clause) (lawful : IsLawful C clauses) where
   -- each goal list of an item may replace it

@@ -4,6 +4,12 @@ pub mod SpelledFacts
 pub mod BindFacts
 pub mod ExtendFacts
 pub mod Sound
+pub mod ChoiceFacts
+pub mod ClosingFacts
+pub mod OpenFormulaFacts
+pub mod TableFacts
+pub mod NaturalFacts
+pub mod OddFacts
 pub mod SolveFacts
 pub mod Lowering
 pub mod Covered
@@ -21,6 +27,7 @@ pub mod StateFacts
 pub mod CallFacts
 pub mod ComparisonFacts
 pub mod WalkFacts
+pub mod UnificationFacts
 pub mod LoopFacts
 pub mod SolveAnswer
 pub mod SameAtoms

@@ -2,6 +2,7 @@
 use Rattle.std.specs.Prelude.{◌≡◌, ◌≢◌, ℕ, zero, suc, ◌-◌, ◌≤◌, List, [], ◌∷◌, ◌++◌, length, refl, Some}
 use Rattle.std.proofs.Common.{ap, ◌∙◌, sym, arith}
 use Rattle.clause_language.specs.declared.clause.Clause.{Clause}
+use Rattle.clause_language.specs.LeastModel.{fits}
 use Rattle.search_model.specs.Run.{Ending, ended, spent, run}
 use Rattle.search_model.specs.Search as search
 use Rattle.search_model.specs.Solve.{Nothing, no_calculus}
@@ -52,14 +53,14 @@ module _ (clauses : List Clause) where
         no-unit none = with-goal ∙ ap (λ n. raise k (running clauses n (search.between (search.with_goals (alternative_of a) (goal_of g ∷ goals_of gs) ∷ alternatives_of below)))) none
 
         -- a unit is taken
-        pub a-unit : left ≢ 0 → e ≡ raise (suc k) (running clauses (left - 1) (search.taken no_calculus clauses (goal_of g) (search.with_goals (alternative_of a) (goals_of gs)) (alternatives_of below)))
+        pub a-unit : left ≢ 0 → e ≡ raise (suc k) (running clauses (left - 1) (search.taken no_calculus fits clauses (goal_of g) (search.with_goals (alternative_of a) (goals_of gs)) (alternatives_of below)))
         a-unit some = with-goal ∙ go left some
           where
             go : (n : ℕ) → n ≢ 0
                 → raise k (running clauses n (search.between (search.with_goals (alternative_of a) (goal_of g ∷ goals_of gs) ∷ alternatives_of below)))
-                ≡ raise (suc k) (running clauses (n - 1) (search.taken no_calculus clauses (goal_of g) (search.with_goals (alternative_of a) (goals_of gs)) (alternatives_of below)))
+                ≡ raise (suc k) (running clauses (n - 1) (search.taken no_calculus fits clauses (goal_of g) (search.with_goals (alternative_of a) (goals_of gs)) (alternatives_of below)))
             go zero some = absurd (some refl)
-            go (suc n) some = raise-one-more k _ ∙ ap (λ m. raise (suc k) (running clauses m (search.taken no_calculus clauses (goal_of g) (search.with_goals (alternative_of a) (goals_of gs)) (alternatives_of below)))) (omega arith)
+            go (suc n) some = raise-one-more k _ ∙ ap (λ m. raise (suc k) (running clauses m (search.taken no_calculus fits clauses (goal_of g) (search.with_goals (alternative_of a) (goals_of gs)) (alternatives_of below)))) (omega arith)
 
   -- the loop goes on
   pub goes-on : (e p q : Ending (search.Answer Nothing Nothing)) (budget left now : ℕ) → e ≡ raise (suc (budget - left)) p → p ≡ raise (left - 1 - now) q

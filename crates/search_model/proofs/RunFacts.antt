@@ -15,14 +15,14 @@ module _ (S R : Type 0) (answer : S → Option R) (step : S → S) where
     pub below : (m : ℕ) → m < u → run answer step m s ≡ spent
 
   -- a run from a state with an answer, and from one without
-  run_answered : (m : ℕ) (s : S) (r : R) → answer s ≡ Some r → run answer step m s ≡ ended r 0
+  pub run_answered : (m : ℕ) (s : S) (r : R) → answer s ≡ Some r → run answer step m s ≡ ended r 0
   run_answered zero s r e = rw (e, run)
   run_answered (suc m) s r e = rw (e, run)
 
-  run_spent : (s : S) → answer s ≡ None → run answer step 0 s ≡ spent
+  pub run_spent : (s : S) → answer s ≡ None → run answer step 0 s ≡ spent
   run_spent s e = rw (e, run)
 
-  run_going : (m : ℕ) (s : S) → answer s ≡ None → run answer step (suc m) s ≡ one_more (run answer step m (step s))
+  pub run_going : (m : ℕ) (s : S) → answer s ≡ None → run answer step (suc m) s ≡ one_more (run answer step m (step s))
   run_going m s e = rw (e, run)
 
   settled_now : (n : ℕ) (s : S) (q r : R) (u : ℕ) → answer s ≡ Some q → run answer step n s ≡ ended r u → IsSettled n s r u

@@ -143,26 +143,26 @@ module _ {S : ℕ → ℕ → Type 0} where
     fits-same {a = a} {b = b} {c = c} {d = d} h k =
         ap₂ (λ x y. x && y) (one a.name c.name b.name d.name h.names k.names) (ap₂ (λ x y. nat_eq x y) (length-same h.terms) (length-same k.terms))
 
-    by_clauses-same : (k : ℕ) {a b : Atom} {cs ds : List Clause} → SameAtom S a b → SameList (SameClause S) cs ds → SameList (SameGoalList S) (by_clauses no_calculus a k cs) (by_clauses no_calculus b k ds)
+    by_clauses-same : (k : ℕ) {a b : Atom} {cs ds : List Clause} → SameAtom S a b → SameList (SameClause S) cs ds → SameList (SameGoalList S) (by_clauses no_calculus fits a k cs) (by_clauses no_calculus fits b k ds)
     by_clauses-same k h same_nil = same_nil
     by_clauses-same k {a = a} {b = b} h (same_cons {x = c} {y = d} {xs = cs} {ys = ds} s ss) =
-        subst (λ w. SameList (SameGoalList S) (by_clauses no_calculus a k (c ∷ cs)) (where_it_fits no_calculus w (by_clause no_calculus b k d) (by_clauses no_calculus b k ds))) (fits-same h s.heads)
+        subst (λ w. SameList (SameGoalList S) (by_clauses no_calculus fits a k (c ∷ cs)) (where_it_fits no_calculus w (by_clause no_calculus b k d) (by_clauses no_calculus fits b k ds))) (fits-same h s.heads)
         (where_it_fits-same (fits a c.head) (by_clause-same k h s) (by_clauses-same k h ss))
 
     module _ {cs ds : List Clause} (same_clauses : SameList (SameClause S) cs ds) where
       taken-same : {g k : Goal Nothing Nothing} {a b : Alternative Nothing Nothing} {others more : List (Alternative Nothing Nothing)} → SameGoal S g k → SameAlternative S a b → SameList (SameAlternative S) others more
-          → SameState S (taken no_calculus cs g a others) (taken no_calculus ds k b more)
+          → SameState S (taken no_calculus fits cs g a others) (taken no_calculus fits ds k b more)
       taken-same {a = a} {b = b} (same_call h) (same_alternative gs emitted spelled ts levels) k =
           same_between (append-same (map-same (extended a) (extended b) (λ e d s. extended-same (same_alternative gs emitted spelled ts levels) s) (by_clauses-same (length levels) h same_clauses)) k)
       taken-same (same_equate t u) s k = equated-same (equality-same one t u) s k
 
       step_of-same : {goals rest : List (Goal Nothing Nothing)} {a b : Alternative Nothing Nothing} {others more : List (Alternative Nothing Nothing)} → SameList (SameGoal S) goals rest → SameAlternative S a b
-          → SameList (SameAlternative S) others more → SameState S (step_of no_calculus cs goals a others) (step_of no_calculus ds rest b more)
+          → SameList (SameAlternative S) others more → SameState S (step_of no_calculus fits cs goals a others) (step_of no_calculus fits ds rest b more)
       step_of-same same_nil s k = same_between (same_cons s k)
       step_of-same (same_cons g gs) s k = taken-same g (with_goals-same s gs) k
 
       -- a step keeps the relation
-      step-same : {s r : State Nothing Nothing} → SameState S s r → SameState S (step no_calculus cs s) (step no_calculus ds r)
+      step-same : {s r : State Nothing Nothing} → SameState S s r → SameState S (step no_calculus fits cs s) (step no_calculus fits ds r)
       step-same (same_between same_nil) = same_between same_nil
       step-same (same_between (same_cons (same_alternative gs emitted spelled ts levels) k)) = step_of-same gs (same_alternative gs emitted spelled ts levels) k
       step-same (same_walking v h x xs (same_alternative gs emitted spelled ts levels) k) =
@@ -171,5 +171,5 @@ module _ {S : ℕ → ℕ → Type 0} where
       -- the search ends alike
       pub solving-same : {a b : Atom} → SameAtom S a b → (budget variables : ℕ) → SameEnding (SameAnswer S) (solving cs budget a variables) (solving ds budget b variables)
       solving-same h budget variables =
-          run-same answer answer (step no_calculus cs) (step no_calculus ds) (λ s r h. answer-same h) (λ s r h. step-same h) budget
+          run-same answer answer (step no_calculus fits cs) (step no_calculus fits ds) (λ s r h. answer-same h) (λ s r h. step-same h) budget
           (same_between (same_cons (same_alternative (same_cons (same_call h) same_nil) [] [] h.terms (replicate variables None)) same_nil))

@@ -8,7 +8,7 @@ use Rattle.fpc_terms.specs.Text.{room_left}
 use Rattle.clause_language.specs.declared.atom.Atom.{Atom}
 use Rattle.clause_language.specs.declared.clause.Clause.{Clause}
 use Rattle.clause_language.specs.declared.program.Program.{Program}
-use Rattle.clause_language.specs.LeastModel.{AreOpenClauses}
+use Rattle.clause_language.specs.LeastModel.{AreOpenClauses, fits}
 use Rattle.search_model.specs.Run.{ended}
 use Rattle.search_model.specs.Search.{Answer, State, accepted, answer, call, rejected, start, step}
 use Rattle.search_model.specs.Solve.{IsAccepted, IsRight, IsSound, Nothing, no_calculus, solving}
@@ -21,9 +21,9 @@ use Rattle.search_model.proofs.SolveFacts.{solved_holds, solved_instance}
 
 -- an outcome of the search for an atom is settled
 pub solving-settled : (clauses : List Clause) (a : Atom) (variables budget units : ℕ) (r : Answer Nothing Nothing) → solving clauses budget a variables ≡ ended r units
-    → IsSettled (State Nothing Nothing) (Answer Nothing Nothing) answer (step no_calculus clauses) budget (start no_calculus clauses (call a) a.arguments variables) r units
+    → IsSettled (State Nothing Nothing) (Answer Nothing Nothing) answer (step no_calculus fits clauses) budget (start (call a) a.arguments variables) r units
 solving-settled clauses a variables budget units r e =
-    settled (State Nothing Nothing) (Answer Nothing Nothing) answer (step no_calculus clauses) budget (start no_calculus clauses (call a) a.arguments variables) r units e
+    settled (State Nothing Nothing) (Answer Nothing Nothing) answer (step no_calculus fits clauses) budget (start (call a) a.arguments variables) r units e
 
 -- there is room where some is left
 pub room-some : (room n m : ℕ) → Some m ≡ room_left room n → n ≤ room

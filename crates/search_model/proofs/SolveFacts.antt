@@ -9,20 +9,27 @@ use Rattle.fpc_terms.specs.Open.{IsGround, IsOpen, AreOpen, Level}
 use Rattle.fpc_terms.proofs.PutFacts.{ground_put}
 use Rattle.clause_language.specs.declared.atom.Atom.{Atom}
 use Rattle.clause_language.specs.declared.clause.Clause.{Clause}
-use Rattle.clause_language.specs.LeastModel.{put_atom, Holds, AreOpenClauses}
+use Rattle.clause_language.specs.LeastModel.{put_atom, Holds, AreOpenClauses, fits}
 use Rattle.search_model.specs.Run.{ended}
 use Rattle.search_model.specs.Search.{call, Alternative, accepted}
 use Rattle.search_model.specs.Solve.{Nothing, no_calculus, solving, solved_atom}
 use Rattle.search_model.specs.Lawful.{IsGoal, IsLawful}
 use Rattle.search_model.proofs.Sound.{accepted_ends}
+use Rattle.search_model.proofs.ChoiceFacts.{fits_is_choice}
 
 -- the calculus without items and steps is lawful
 pub no_calculus_lawful : (clauses : List Clause) → IsLawful no_calculus clauses
 no_calculus_lawful clauses = record {
   item-put = λ s r x. refl;
   step-put = λ s r e. refl;
+  item_same = λ x. refl;
+  step_same = λ e. refl;
+  item_agrees = λ k s r same x x_open. absurd x_open;
+  step_agrees = λ k s r same e e_open. absurd e_open;
   open_put = λ j k r h x x_open. x_open;
   open_more = λ j k l x x_open. x_open;
+  step_open_put = λ j k r h e e_open. e_open;
+  step_open_more = λ j k l e e_open. e_open;
   scoped_put = λ levels after r h x x_open scoped. scoped;
   scoped_more = λ levels more x x_open scoped. scoped;
   expands = λ levels x x_open scoped e one. absurd x_open;
@@ -41,7 +48,7 @@ module _ (clauses : List Clause) (b : Atom) where
       (a : Alternative Nothing Nothing) (e : solving clauses budget b variables ≡ ended (accepted a) units) where
     solved : IsSolved (solved_atom any b a).arguments
     solved =
-        accepted_ends no_calculus clauses (no_calculus_lawful clauses) (λ arguments steps. IsSolved arguments)
+        accepted_ends no_calculus fits fits_is_choice clauses (no_calculus_lawful clauses) (λ arguments steps. IsSolved arguments)
         opens budget (call b) b.arguments variables
         (All-cons (IsGoal no_calculus (replicate variables None)) (call b) []
         (subst (λ k. AreOpen k b.arguments) (sym (length-replicate {A = Level} variables None)) b_open)

@@ -12,8 +12,8 @@ use Rattle.fpc_terms.proofs.EqualityFacts.{Means, equality_means, HasTerms, equa
 use Rattle.clause_language.specs.declared.clause.Clause.{Clause}
 use Rattle.clause_language.specs.LeastModel.{AreOpenClauses}
 use Rattle.search_model.specs.Run.{ended}
-use Rattle.search_model.specs.Search.{SearchCalculus, Goal, call, equate, emit, item, Alternative, State, between, walking, Answer, accepted, equalities, with_goals, answer_of, answer, equated, walked_on, behind_node, taken, step_of, step, start, search}
-use Rattle.search_model.specs.Lawful.{Spelled, IsGoal, AreGoals, IsLawful}
+use Rattle.search_model.specs.Search.{SearchCalculus, Choice, Goal, call, equate, emit, item, Alternative, State, between, walking, Answer, accepted, equalities, with_goals, answer_of, answer, equated, walked_on, behind_node, taken, step_of, step, start, search}
+use Rattle.search_model.specs.Lawful.{Spelled, IsGoal, AreGoals, IsLawful, IsChoice}
 use Rattle.search_model.proofs.RunFacts.{kept}
 use Rattle.search_model.proofs.Fine.{IsFine, AreFine, IsStateFine}
 use Rattle.search_model.proofs.BindFacts.{bound_fine}
@@ -67,7 +67,8 @@ module _ (C : SearchCalculus) (clauses : List Clause) (End : List Term → List 
         (fine.ends s closing (C.put_step s e ∷ steps) (steps, refl, h));
   }
 
-module _ (C : SearchCalculus) (clauses : List Clause) (lawful : IsLawful C clauses) (End : List Term → List C.StepOf → Type 0) where
+module _ (C : SearchCalculus) (choice : Choice) (is_choice : IsChoice choice) (clauses : List Clause)
+    (lawful : IsLawful C clauses) (End : List Term → List C.StepOf → Type 0) where
   module _ (a : Alternative C.ItemOf C.StepOf) (others : List (Alternative C.ItemOf C.StepOf)) (rest : AreFine C clauses End others) where
     walked_on_fine : (v : ℕ) (t : Term) → IsFine C clauses End (with_goals a (equate (variable v) t ∷ a.goals)) → (xs : Args)
         → (ArePassed v (level_of a.levels v) xs → IsPassed v (level_of a.levels v) t) → IsStateFine C clauses End (walked_on C v t xs a others)
@@ -104,11 +105,12 @@ module _ (C : SearchCalculus) (clauses : List Clause) (lawful : IsLawful C claus
     equated_fine t u fine clash means has as_many differ = rest
 
     taken_fine : AreOpenClauses clauses → (g : Goal C.ItemOf C.StepOf) → IsFine C clauses End (with_goals a (g ∷ a.goals))
-        → IsStateFine C clauses End (taken C clauses g a others)
+        → IsStateFine C clauses End (taken C choice clauses g a others)
     taken_fine opens (call b) fine =
         let b_open = All-head (IsGoal C a.levels) (call b) a.goals fine.goals_are in
         extended_are_fine C clauses lawful End a (call b) others fine rest _
-        (clauses_entries C clauses a.levels b b_open clauses (All-contains_itself clauses) opens)
+        (clauses_entries C clauses a.levels b b_open choice is_choice clauses
+        (All-contains_itself clauses) opens)
     taken_fine opens (equate t u) fine =
         let open_terms = All-head (IsGoal C a.levels) (equate t u) a.goals fine.goals_are in
         equated_fine t u fine (equality t u) (λ s. equality_means s t u)
@@ -120,12 +122,12 @@ module _ (C : SearchCalculus) (clauses : List Clause) (lawful : IsLawful C claus
 
   step_of_fine : AreOpenClauses clauses → (goals : List (Goal C.ItemOf C.StepOf)) (a : Alternative C.ItemOf C.StepOf)
       (others : List (Alternative C.ItemOf C.StepOf)) → IsFine C clauses End (with_goals a goals) → IsFine C clauses End a
-      → AreFine C clauses End others → IsStateFine C clauses End (step_of C clauses goals a others)
+      → AreFine C clauses End others → IsStateFine C clauses End (step_of C choice clauses goals a others)
   step_of_fine opens [] a others fine whole rest = All-cons (IsFine C clauses End) a others whole rest
   step_of_fine opens (g ∷ goals) a others fine whole rest = taken_fine (with_goals a goals) others rest opens g fine
 
   -- each step keeps what holds of the states
-  pub step_fine : AreOpenClauses clauses → (q : State C.ItemOf C.StepOf) → IsStateFine C clauses End q → IsStateFine C clauses End (step C clauses q)
+  pub step_fine : AreOpenClauses clauses → (q : State C.ItemOf C.StepOf) → IsStateFine C clauses End q → IsStateFine C clauses End (step C choice clauses q)
   step_fine opens (between []) fine = fine
   step_fine opens (between (a ∷ others)) fine =
       let first = All-head (IsFine C clauses End) a others fine in
@@ -156,7 +158,7 @@ module _ (C : SearchCalculus) (clauses : List Clause) (lawful : IsLawful C claus
       → AreGoals C (replicate variables None) (g ∷ []) → AreOpen variables asked
       → ((s : ℕ → Term) → IsClosing (replicate variables None) s → (steps : List C.StepOf) → Spelled C clauses s (g ∷ []) steps
       → End (map (put s) asked) steps)
-      → IsStateFine C clauses End (start C clauses g asked variables)
+      → IsStateFine C clauses End (start g asked variables)
   start_fine g asked variables are asked_open ends =
       All-cons (IsFine C clauses End) _ []
       (record {
@@ -171,28 +173,29 @@ module _ (C : SearchCalculus) (clauses : List Clause) (lawful : IsLawful C claus
       → AreGoals C (replicate variables None) (g ∷ []) → AreOpen variables asked
       → ((s : ℕ → Term) → IsClosing (replicate variables None) s → (steps : List C.StepOf) → Spelled C clauses s (g ∷ []) steps
       → End (map (put s) asked) steps)
-      → (a : Alternative C.ItemOf C.StepOf) (units : ℕ) → search C clauses budget g asked variables ≡ ended (accepted a) units
+      → (a : Alternative C.ItemOf C.StepOf) (units : ℕ) → search C choice clauses budget g asked variables ≡ ended (accepted a) units
       → (any : ℕ) → End (map (put (constant any)) a.asked) (map (C.put_step (constant any)) a.emitted)
   accepted_ends opens budget g asked variables are asked_open ends a units e any = answer_ends any last.0 a last.1 last.2 where
-    keeps : (q : State C.ItemOf C.StepOf) → answer q ≡ None → IsStateFine C clauses End q → IsStateFine C clauses End (step C clauses q)
+    keeps : (q : State C.ItemOf C.StepOf) → answer q ≡ None → IsStateFine C clauses End q → IsStateFine C clauses End (step C choice clauses q)
     keeps q none fine = step_fine opens q fine
 
     last : (q : State C.ItemOf C.StepOf) × IsStateFine C clauses End q × (answer q ≡ Some (accepted a))
     last =
-        kept (State C.ItemOf C.StepOf) (Answer C.ItemOf C.StepOf) answer (step C clauses) (IsStateFine C clauses End) keeps budget
-        (start C clauses g asked variables) (accepted a) units (start_fine g asked variables are asked_open ends) e
+        kept (State C.ItemOf C.StepOf) (Answer C.ItemOf C.StepOf) answer (step C choice clauses) (IsStateFine C clauses End) keeps budget
+        (start g asked variables) (accepted a) units (start_fine g asked variables are asked_open ends) e
 
 -- the steps complete an instance of the item
 abbrev pub CompletesInstance : (C : SearchCalculus) → C.ItemOf → List C.StepOf → Type 0
 CompletesInstance C x steps = (s : ℕ → Term) × ((n : ℕ) → IsGround (s n)) × C.Completed (C.put_item s x) steps
 
 -- What a search for an item accepts completes an instance of the item, by its steps.
-pub accepted_completed : (C : SearchCalculus) (clauses : List Clause) → IsLawful C clauses → AreOpenClauses clauses
+pub accepted_completed : (C : SearchCalculus) (choice : Choice) → IsChoice choice
+    → (clauses : List Clause) → IsLawful C clauses → AreOpenClauses clauses
     → (budget : ℕ) (x : C.ItemOf) (variables : ℕ) → C.IsOpenItem variables x → C.IsScopedItem (replicate variables None) x
-    → (a : Alternative C.ItemOf C.StepOf) (units : ℕ) → search C clauses budget (item x) [] variables ≡ ended (accepted a) units
+    → (a : Alternative C.ItemOf C.StepOf) (units : ℕ) → search C choice clauses budget (item x) [] variables ≡ ended (accepted a) units
     → (any : ℕ) → CompletesInstance C x (map (C.put_step (constant any)) a.emitted)
-accepted_completed C clauses lawful opens budget x variables x_open x_scoped a units e any =
-    accepted_ends C clauses lawful (λ asked steps. CompletesInstance C x steps) opens budget (item x) [] variables are
+accepted_completed C choice is_choice clauses lawful opens budget x variables x_open x_scoped a units e any =
+    accepted_ends C choice is_choice clauses lawful (λ asked steps. CompletesInstance C x steps) opens budget (item x) [] variables are
     (All-nil (IsOpen variables)) met a units e any
   where
     levels_open : C.IsOpenItem (length (replicate {A = Level} variables None)) x

@@ -55,7 +55,8 @@ module _ (C : SearchCalculus) (clauses : List Clause) (lawful : IsLawful C claus
   goal_put levels after r open_terms at_levels (call a) h = opens_put (length levels) (length after) r open_terms a.arguments h
   goal_put levels after r open_terms at_levels (equate t u) h =
       (open_put (length levels) (length after) r open_terms t h.0, open_put (length levels) (length after) r open_terms u h.1)
-  goal_put levels after r open_terms at_levels (emit e) h = tt
+  goal_put levels after r open_terms at_levels (emit e) h =
+      lawful.step_open_put (length levels) (length after) r open_terms e h
   goal_put levels after r open_terms at_levels (item x) h =
       (lawful.open_put (length levels) (length after) r open_terms x h.0, lawful.scoped_put levels after r at_levels x h.0 h.1)
 
@@ -72,7 +73,8 @@ module _ (C : SearchCalculus) (clauses : List Clause) (lawful : IsLawful C claus
   goal_more levels more (equate t u) h =
       let le = length_more levels more in
       (open_more (length levels) (length (levels ++ more)) le t h.0, open_more (length levels) (length (levels ++ more)) le u h.1)
-  goal_more levels more (emit e) h = tt
+  goal_more levels more (emit e) h =
+      lawful.step_open_more (length levels) (length (levels ++ more)) (length_more levels more) e h
   goal_more levels more (item x) h =
       (lawful.open_more (length levels) (length (levels ++ more)) (length_more levels more) x h.0, lawful.scoped_more levels more x h.0 h.1)
 

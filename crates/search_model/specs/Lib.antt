@@ -1,6 +1,10 @@
 pub mod Run
 pub mod Search
 pub mod Lawful
+pub mod OpenFormula
+pub mod Table
+pub mod Odd
 pub mod Solve
+pub mod EqualityRun
 pub mod Renaming
 pub mod States

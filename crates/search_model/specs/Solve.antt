@@ -5,7 +5,7 @@ use Rattle.fpc_terms.specs.Open.{IsGround, constant}
 use Rattle.clause_language.specs.declared.atom.Atom.{Atom}
 use Rattle.clause_language.specs.declared.clause.Clause.{Clause}
 use Rattle.clause_language.specs.declared.program.Program.{Program}
-use Rattle.clause_language.specs.LeastModel.{put_atom, Holds}
+use Rattle.clause_language.specs.LeastModel.{put_atom, Holds, fits}
 use Rattle.clause_language.specs.Text.{atom_before}
 use Rattle.search_model.specs.Run.{Ending, ended, spent}
 use Rattle.search_model.specs.Search.{SearchCalculus, call, Alternative, Answer, accepted, rejected, search}
@@ -25,12 +25,16 @@ no_calculus = record {
   expand = λ x k. [];
   Completed = λ x steps. ⊥;
   IsOpenItem = λ k x. ⊥;
+  IsOpenStep = λ k e. ⊥;
   IsScopedItem = λ levels x. ⊥;
 }
 
--- the search for an atom over clauses within a budget; the atom's variables are numbered below the number given, and have no level
+-- the search for an atom over clauses within a budget: a clause may answer a call where its head
+-- has the atom's name and number of arguments; the atom's variables are numbered below the number
+-- given, and have no level
 abbrev pub solving : List Clause → ℕ → Atom → ℕ → Ending (Answer Nothing Nothing)
-solving clauses budget a variables = search no_calculus clauses budget (call a) a.arguments variables
+solving clauses budget a variables =
+    search no_calculus fits clauses budget (call a) a.arguments variables
 
 -- the atom that was asked, with its bindings, and a constant for each variable that is left
 abbrev pub solved_atom : ℕ → Atom → Alternative Nothing Nothing → Atom
@@ -78,14 +82,16 @@ pub record IsSound (clauses : List Clause) (asked a : Atom) : Type 0 where
   pub ground : (n : ℕ) → IsGround (terms n)
   pub is_instance : a ≡ put_atom terms asked
 
--- an accepted atom is sound, one whose text is too long as well, and where the search is rejected no instance of the atom is in the least model
+-- an accepted atom is sound, one whose text is too long as well, and where the search is rejected
+-- no instance of the atom is in the least model
 abbrev pub IsRight : List Clause → Atom → Solved → Type 0
 IsRight clauses asked (Accepted a units) = IsSound clauses asked a
 IsRight clauses asked (Rejected units) = (s : ℕ → Term) → ((n : ℕ) → IsGround (s n)) → ¬ (Holds clauses (put_atom s asked))
 IsRight clauses asked Spent = Unit {0}
 IsRight clauses asked TooLong = (a : Atom) × IsSound clauses asked a
 
--- An outcome with so many units is the same within each budget that has them, and each smaller budget is spent.
+-- An outcome with so many units is the same within each budget that has them, and each smaller
+-- budget is spent.
 abbrev pub OutcomeIsSettled : Type 0
 OutcomeIsSettled = (clauses : List Clause) (a : Atom) (variables budget units : ℕ) (answer : Answer Nothing Nothing) → solving clauses budget a variables ≡ ended answer units
     → ((more : ℕ) → units ≤ more → solving clauses more a variables ≡ ended answer units) × ((fewer : ℕ) → fewer < units → solving clauses fewer a variables ≡ spent)

@@ -6,6 +6,8 @@ use Rattle.fpc_terms.specs.Equality.{Equality, same, parts, older, walk, clash, 
 use Rattle.fpc_terms.specs.Open.{Level, level_of, lower}
 use Rattle.fpc_terms.specs.Term.{Term, Args, eigen, bound, variable, app, no_args, count}
 use Rattle.clause_language.specs.declared.clause.Clause.{Clause}
+use Rattle.clause_language.specs.LeastModel.{fits}
+pub use Rattle.fpc_terms.specs.Run.{raise}
 use Rattle.search_model.specs.Run.{Ending, ended, spent, run}
 use Rattle.search_model.specs.Search as search
 use Rattle.search_model.specs.Solve.{Nothing, no_calculus}
@@ -78,14 +80,9 @@ walk_through v l [] units = (Passed, units)
 walk_through v l (c ∷ cells) zero = (OutOfUnits, 0)
 walk_through v l (c ∷ cells) (suc units) = if is_clash v l c then (Clashed, units) else walk_through v l cells units
 
--- so many units more
-abbrev pub raise : {R : Type 0} → ℕ → Ending R → Ending R
-raise k (ended r u) = ended r (k + u)
-raise k spent = spent
-
 -- the run of the search over clauses from a state
 abbrev pub running : List Clause → ℕ → search.State Nothing Nothing → Ending (search.Answer Nothing Nothing)
-running clauses units q = run search.answer (search.step no_calculus clauses) units q
+running clauses units q = run search.answer (search.step no_calculus fits clauses) units q
 
 -- the run behind what took some of the units, and whether there were enough
 abbrev pub on_from : List Clause → ℕ → ℕ → Bool → search.State Nothing Nothing → Ending (search.Answer Nothing Nothing)

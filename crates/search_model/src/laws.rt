@@ -1,4 +1,6 @@
 //! Laws over the definition of the search, each the contract of a function with nothing to run.
+ghost use Rattle.search_model.specs.EqualityRun.{EqualityIsUnified};
+ghost use Rattle.search_model.specs.Odd.{NaturalIsApart};
 ghost use Rattle.search_model.specs.Renaming.{AnsweredOnce};
 ghost use Rattle.search_model.specs.Solve.{OutcomeIsSettled};
 
@@ -10,4 +12,17 @@ pub fn outcome_is_settled()
 /// The answer to an atom over a definition hangs on what the two say, and on no numbering of their names.
 pub fn one_solution()
     ensures { AnsweredOnce }
+{}
+
+/// That goal lists follow the terms for an item's variables has to be asked of a calculus: a lawful
+/// and complete one may be otherwise.
+pub fn natural_is_apart()
+    ensures { NaturalIsApart }
+{}
+
+/// A search takes an equality as unification does: where unification ends with some units, the search
+/// goes on after as many, from the alternative as it is then or without it, and it is spent where
+/// unification is.
+pub fn equality_is_unified()
+    ensures { EqualityIsUnified }
 {}

@@ -4,6 +4,7 @@ ghost use Rattle.std.specs.Prelude.{None as NoLevel};
 ghost use Rattle.fpc_terms.specs.Equality.{equality};
 ghost use Rattle.fpc_terms.specs.Open.{AreOpen, constant, level_of};
 ghost use Rattle.fpc_terms.specs.Term.{put, no_args};
+ghost use Rattle.clause_language.specs.LeastModel.{fits};
 ghost use Rattle.clause_language.specs.Naming.{IsAtomNamedBelow};
 ghost use Rattle.clause_language.specs.Program.{IsProgram, HasFewArguments};
 ghost use Rattle.search_model.specs.Search.{between, equated, taken, walking};
@@ -119,7 +120,7 @@ fn take(
     units: &mut u64,
 ) -> Result<bool, OutOfMemory>
     ensures left { IfOk result (λ enough. units.new ≤ units.old) }
-    ensures step { IfOk result (λ enough. running clauses.now units.old (taken no_calculus clauses.now (goal_of goal) (alternative_of first) (alternatives_of stack.old.items))
+    ensures step { IfOk result (λ enough. running clauses.now units.old (taken no_calculus fits clauses.now (goal_of goal) (alternative_of first) (alternatives_of stack.old.items))
         ≡ on_from clauses.now units.old units.new enough (between (alternatives_of stack.new.items))) }
 {
     match goal {
