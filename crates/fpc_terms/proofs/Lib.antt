@@ -17,6 +17,7 @@ pub mod SameTerms
 pub mod AddingFacts
 pub mod PutFacts
 pub mod EqualityFacts
+pub mod RunFacts
 pub mod LevelFacts
 pub mod RoomFacts
 pub mod SubstitutionFacts

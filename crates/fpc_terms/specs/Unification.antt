@@ -2,7 +2,8 @@
 use Rattle.std.specs.Prelude.{ℕ, Option, Some, None, List, [], ◌∷◌, map}
 use Rattle.fpc_terms.specs.Term.{Term, Args, variable, no_args, arg, joined, terms_in, put}
 use Rattle.fpc_terms.specs.Open.{Level, level_of, lower_in, at_one}
-use Rattle.fpc_terms.specs.Equality.{Equality, same, parts, older, walk, clash, equality, walked_node}
+use Rattle.fpc_terms.specs.Equality.{Equality, same, parts, older, walk, clash, equality}
+use Rattle.fpc_terms.specs.Equality.{walked_node}
 use Rattle.fpc_terms.specs.Run.{Ending, run}
 
 -- two terms that are to become equal

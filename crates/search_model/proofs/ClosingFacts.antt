@@ -1,5 +1,6 @@
 -- A closing, and another one of the variables after its own.
-use Rattle.std.specs.Prelude.{◌≡◌, ℕ, ◌+◌, ◌-◌, ◌<◌, ◌≤◌, nat_lt, None, List, ◌++◌, length, replicate}
+use Rattle.std.specs.Prelude.{◌≡◌, ℕ, ◌+◌, ◌-◌, ◌<◌, ◌≤◌, nat_lt}
+use Rattle.std.specs.Prelude.{None, List, ◌++◌, length, replicate}
 use Rattle.std.proofs.Common.{refl, sym, ap, ◌∙◌, subst, ⊎_elim, arith}
 use Rattle.std.proofs.lemmas.Bool.{cases_lt, lt-ltb, le-ltb, cond-true, cond-false, cond_both}
 use Rattle.std.proofs.lemmas.List.{get_or_append_left, get_or-append_right}
@@ -25,7 +26,10 @@ both_later k s r n =
 pub closing_both : (levels new : List Level) (s r : ℕ → Term) → IsClosing levels s → IsClosing new r
     → IsClosing (levels ++ new) (both (length levels) s r)
 closing_both levels new s r first second =
-    record { ground = ground_at; in_scope = λ n. ⊎_elim (within n) (past n) (cases_lt n (length levels)) }
+    record {
+      ground = ground_at;
+      in_scope = λ n. ⊎_elim (within n) (past n) (cases_lt n (length levels));
+    }
   where
     ground_at : (n : ℕ) → IsGround (both (length levels) s r n)
     ground_at n =

@@ -17,7 +17,7 @@ use Rattle.search_model.specs.Lawful.{IsGoal, AreGoals, IsLawful, IsComplete, Is
 use Rattle.search_model.proofs.ClosingFacts.{closing_free}
 use Rattle.search_model.proofs.GoalsMet.{IsMet, AreMet}
 use Rattle.search_model.proofs.Fine.{IsFine, IsStateFine}
-use Rattle.search_model.proofs.RunFacts.{kept}
+use Rattle.fpc_terms.proofs.RunFacts.{kept}
 use Rattle.search_model.proofs.Sound.{step_fine, start_fine}
 use Rattle.search_model.proofs.Covered.{GoalOf, AlternativeOf, StateOf, IsCoveredBy, IsCovered, IsOneCovered, IsStateCovered}
 use Rattle.search_model.proofs.Covered.{rest_covered, equated_others, behind_others, equated_covered, node_covered}

@@ -15,7 +15,8 @@ use Rattle.clause_language.specs.declared.clause.Clause.{Clause}
 use Rattle.clause_language.specs.LeastModel.{Holds}
 use Rattle.clause_language.proofs.LeastModelFacts.{put_atom-put_atom}
 use Rattle.search_model.specs.Search.{SearchCalculus, Goal, call, equate, emit, item, Alternative, State, between, walking, equalities}
-use Rattle.search_model.specs.Search.{with_goals, put_goal, bound_to, equated, walked_on, behind_node}
+use Rattle.search_model.specs.Search.{with_goals, put_goal, bound_to, equated}
+use Rattle.search_model.proofs.WalkSteps.{walked_on, behind_node}
 use Rattle.search_model.specs.Lawful.{IsLawful}
 use Rattle.search_model.proofs.GoalsMet.{IsMet, AreMet}
 use Rattle.search_model.proofs.Lowering.{term_lowered}

@@ -1,5 +1,5 @@
+pub mod WalkSteps
 pub mod Fine
-pub mod RunFacts
 pub mod SpelledFacts
 pub mod BindFacts
 pub mod ExtendFacts

@@ -11,7 +11,7 @@ use Rattle.search_model.specs.declared.alternative.Goal.{Goal}
 use Rattle.search_model.specs.declared.alternative.Alternative.{Alternative}
 use Rattle.search_model.specs.declared.solve.Found.TheVariants.{Accepted}
 use Rattle.search_model.proofs.StateFacts.{seen-push, alternatives-push}
-use Rattle.search_model.proofs.WalkFacts.{raise-raise, raise-one-more}
+use Rattle.fpc_terms.proofs.RunFacts.{raise-raise, raise-one-more}
 
 module _ (clauses : List Clause) where
   run-answered : (n : ℕ) (q : search.State Nothing Nothing) (r : search.Answer Nothing Nothing) → search.answer q ≡ Some r → running clauses n q ≡ ended r 0

@@ -54,10 +54,12 @@ odd_complete clauses = record {
     empty_list,
     first_is (length levels),
     (λ n. app 0 no_args),
-    closing_both levels [] s (λ n. app 0 no_args) closing (closing_free 0 (λ n. app 0 no_args) (λ n. tt)),
+    closing_both levels [] s (λ n. app 0 no_args) closing
+        (closing_free 0 (λ n. app 0 no_args) (λ n. tt)),
     done,
   );
 }
 
 pub natural_apart : NaturalIsApart
-natural_apart = record { lawful = odd_lawful; complete = odd_complete; not_natural = odd_not_natural }
+natural_apart =
+    record { lawful = odd_lawful; complete = odd_complete; not_natural = odd_not_natural }

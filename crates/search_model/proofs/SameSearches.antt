@@ -8,7 +8,9 @@ use Rattle.clause_language.specs.declared.atom.Atom.{Atom}
 use Rattle.clause_language.specs.declared.clause.Clause.{Clause}
 use Rattle.clause_language.specs.LeastModel.{put_atom, fits}
 use Rattle.search_model.specs.Run.{Ending, ended, spent, one_more, run}
-use Rattle.search_model.specs.Search.{Goal, call, equate, GoalList, Alternative, State, between, walking, Answer, accepted, rejected, equalities, extended, with_goals, answer_of, answer, put_goal, bound_to, by_clause, where_it_fits, by_clauses, equated, walked_on, behind_node, taken, step_of, step}
+use Rattle.search_model.specs.Search.{Choice, search}
+use Rattle.search_model.specs.Search.{Goal, call, equate, GoalList, Alternative, State, between, walking, Answer, accepted, rejected, equalities, extended, with_goals, answer_of, answer, put_goal, bound_to, by_clause, where_it_fits, by_clauses, equated, taken, step_of, step}
+use Rattle.search_model.proofs.WalkSteps.{walked_on, behind_node}
 use Rattle.search_model.specs.Solve.{Nothing, no_calculus, solving}
 use Rattle.search_model.proofs.SameAtoms.{SameAtom, SameClause}
 use Rattle.search_model.proofs.SameTermParts.{SameEquality, same_same, same_parts, same_older, same_walk, same_clash, map-same, put-same, map_put-same, at_one-same, later-same, lower_in-same, terms_in-same, joined-same, walked_node-same, equality-same}
@@ -138,38 +140,75 @@ module _ {S : ℕ → ℕ → Type 0} where
   answer-same (same_between (same_cons (same_alternative gs emitted spelled ts levels) k)) = answer_of-same gs (same_alternative gs emitted spelled ts levels)
   answer-same (same_walking v h x xs s k) = same_none
 
-  module _ (one : (f g m n : ℕ) → S f m → S g n → nat_eq f g ≡ nat_eq m n) where
-    fits-same : {a b c d : Atom} → SameAtom S a b → SameAtom S c d → fits a c ≡ fits b d
-    fits-same {a = a} {b = b} {c = c} {d = d} h k =
-        ap₂ (λ x y. x && y) (one a.name c.name b.name d.name h.names k.names) (ap₂ (λ x y. nat_eq x y) (length-same h.terms) (length-same k.terms))
-
-    by_clauses-same : (k : ℕ) {a b : Atom} {cs ds : List Clause} → SameAtom S a b → SameList (SameClause S) cs ds → SameList (SameGoalList S) (by_clauses no_calculus fits a k cs) (by_clauses no_calculus fits b k ds)
+  -- a choice that hangs on no names chooses alike
+  module _ (choice : Choice)
+      (alike : (a b c d : Atom) → SameAtom S a b → SameAtom S c d → choice a c ≡ choice b d) where
+    by_clauses-same : (k : ℕ) {a b : Atom} {cs ds : List Clause} → SameAtom S a b
+        → SameList (SameClause S) cs ds
+        → SameList (SameGoalList S) (by_clauses no_calculus choice a k cs) (by_clauses no_calculus choice b k ds)
     by_clauses-same k h same_nil = same_nil
     by_clauses-same k {a = a} {b = b} h (same_cons {x = c} {y = d} {xs = cs} {ys = ds} s ss) =
-        subst (λ w. SameList (SameGoalList S) (by_clauses no_calculus fits a k (c ∷ cs)) (where_it_fits no_calculus w (by_clause no_calculus b k d) (by_clauses no_calculus fits b k ds))) (fits-same h s.heads)
-        (where_it_fits-same (fits a c.head) (by_clause-same k h s) (by_clauses-same k h ss))
+        subst
+        (λ w. SameList (SameGoalList S) (by_clauses no_calculus choice a k (c ∷ cs))
+        (where_it_fits no_calculus w (by_clause no_calculus b k d) (by_clauses no_calculus choice b k ds)))
+        (alike a b c.head d.head h s.heads)
+        (where_it_fits-same (choice a c.head) (by_clause-same k h s) (by_clauses-same k h ss))
 
-    module _ {cs ds : List Clause} (same_clauses : SameList (SameClause S) cs ds) where
-      taken-same : {g k : Goal Nothing Nothing} {a b : Alternative Nothing Nothing} {others more : List (Alternative Nothing Nothing)} → SameGoal S g k → SameAlternative S a b → SameList (SameAlternative S) others more
-          → SameState S (taken no_calculus fits cs g a others) (taken no_calculus fits ds k b more)
+    module _ (one : (f g m n : ℕ) → S f m → S g n → nat_eq f g ≡ nat_eq m n)
+        {cs ds : List Clause} (same_clauses : SameList (SameClause S) cs ds) where
+      taken-same : {g k : Goal Nothing Nothing} {a b : Alternative Nothing Nothing}
+          {others more : List (Alternative Nothing Nothing)} → SameGoal S g k → SameAlternative S a b
+          → SameList (SameAlternative S) others more
+          → SameState S (taken no_calculus choice cs g a others) (taken no_calculus choice ds k b more)
       taken-same {a = a} {b = b} (same_call h) (same_alternative gs emitted spelled ts levels) k =
-          same_between (append-same (map-same (extended a) (extended b) (λ e d s. extended-same (same_alternative gs emitted spelled ts levels) s) (by_clauses-same (length levels) h same_clauses)) k)
+          same_between
+          (append-same
+          (map-same (extended a) (extended b)
+          (λ e d s. extended-same (same_alternative gs emitted spelled ts levels) s)
+          (by_clauses-same (length levels) h same_clauses))
+          k)
       taken-same (same_equate t u) s k = equated-same (equality-same one t u) s k
 
-      step_of-same : {goals rest : List (Goal Nothing Nothing)} {a b : Alternative Nothing Nothing} {others more : List (Alternative Nothing Nothing)} → SameList (SameGoal S) goals rest → SameAlternative S a b
-          → SameList (SameAlternative S) others more → SameState S (step_of no_calculus fits cs goals a others) (step_of no_calculus fits ds rest b more)
+      step_of-same : {goals rest : List (Goal Nothing Nothing)} {a b : Alternative Nothing Nothing}
+          {others more : List (Alternative Nothing Nothing)} → SameList (SameGoal S) goals rest
+          → SameAlternative S a b → SameList (SameAlternative S) others more
+          → SameState S (step_of no_calculus choice cs goals a others)
+          (step_of no_calculus choice ds rest b more)
       step_of-same same_nil s k = same_between (same_cons s k)
       step_of-same (same_cons g gs) s k = taken-same g (with_goals-same s gs) k
 
       -- a step keeps the relation
-      step-same : {s r : State Nothing Nothing} → SameState S s r → SameState S (step no_calculus fits cs s) (step no_calculus fits ds r)
+      step-same : {s r : State Nothing Nothing} → SameState S s r
+          → SameState S (step no_calculus choice cs s) (step no_calculus choice ds r)
       step-same (same_between same_nil) = same_between same_nil
-      step-same (same_between (same_cons (same_alternative gs emitted spelled ts levels) k)) = step_of-same gs (same_alternative gs emitted spelled ts levels) k
+      step-same (same_between (same_cons (same_alternative gs emitted spelled ts levels) k)) =
+          step_of-same gs (same_alternative gs emitted spelled ts levels) k
       step-same (same_walking v h x xs (same_alternative gs emitted spelled ts levels) k) =
-          behind_node-same v h (walked_node-same v (level_of levels v) x) xs (same_alternative gs emitted spelled ts levels) k
+          behind_node-same v h (walked_node-same v (level_of levels v) x) xs
+          (same_alternative gs emitted spelled ts levels) k
 
       -- the search ends alike
-      pub solving-same : {a b : Atom} → SameAtom S a b → (budget variables : ℕ) → SameEnding (SameAnswer S) (solving cs budget a variables) (solving ds budget b variables)
-      solving-same h budget variables =
-          run-same answer answer (step no_calculus fits cs) (step no_calculus fits ds) (λ s r h. answer-same h) (λ s r h. step-same h) budget
-          (same_between (same_cons (same_alternative (same_cons (same_call h) same_nil) [] [] h.terms (replicate variables None)) same_nil))
+      pub search-same : {a b : Atom} → SameAtom S a b → (budget variables : ℕ)
+          → SameEnding (SameAnswer S)
+          (search no_calculus choice cs budget (call a) a.arguments variables)
+          (search no_calculus choice ds budget (call b) b.arguments variables)
+      search-same h budget variables =
+          run-same answer answer (step no_calculus choice cs) (step no_calculus choice ds)
+          (λ s r h. answer-same h) (λ s r h. step-same h) budget
+          (same_between
+          (same_cons
+          (same_alternative (same_cons (same_call h) same_nil) [] [] h.terms (replicate variables None))
+          same_nil))
+
+  module _ (one : (f g m n : ℕ) → S f m → S g n → nat_eq f g ≡ nat_eq m n) where
+    -- so does the choice by name and number of arguments
+    fits-same : (a b c d : Atom) → SameAtom S a b → SameAtom S c d → fits a c ≡ fits b d
+    fits-same a b c d h k =
+        ap₂ (λ x y. x && y) (one a.name c.name b.name d.name h.names k.names)
+        (ap₂ (λ x y. nat_eq x y) (length-same h.terms) (length-same k.terms))
+
+    pub solving-same : {cs ds : List Clause} → SameList (SameClause S) cs ds → {a b : Atom}
+        → SameAtom S a b → (budget variables : ℕ)
+        → SameEnding (SameAnswer S) (solving cs budget a variables) (solving ds budget b variables)
+    solving-same same_clauses h budget variables =
+        search-same fits fits-same one same_clauses h budget variables

@@ -15,7 +15,7 @@ use Rattle.search_model.specs.Solve.{IsAccepted, IsRight, IsSound, Nothing, no_c
 use Rattle.search_model.specs.States.{IsFound}
 use Rattle.search_model.specs.declared.solve.Found.TheVariants as found
 use Rattle.search_model.specs.declared.solve.Solved.TheVariants as solved
-use Rattle.search_model.proofs.RunFacts.{IsSettled, settled}
+use Rattle.fpc_terms.proofs.RunFacts.{IsSettled, settled}
 use Rattle.search_model.proofs.SolveComplete.{rejected_holds_not}
 use Rattle.search_model.proofs.SolveFacts.{solved_holds, solved_instance}
 

@@ -12,9 +12,10 @@ use Rattle.fpc_terms.proofs.EqualityFacts.{Means, equality_means, HasTerms, equa
 use Rattle.clause_language.specs.declared.clause.Clause.{Clause}
 use Rattle.clause_language.specs.LeastModel.{AreOpenClauses}
 use Rattle.search_model.specs.Run.{ended}
-use Rattle.search_model.specs.Search.{SearchCalculus, Choice, Goal, call, equate, emit, item, Alternative, State, between, walking, Answer, accepted, equalities, with_goals, answer_of, answer, equated, walked_on, behind_node, taken, step_of, step, start, search}
+use Rattle.search_model.specs.Search.{SearchCalculus, Choice, Goal, call, equate, emit, item, Alternative, State, between, walking, Answer, accepted, equalities, with_goals, answer_of, answer, equated, taken, step_of, step, start, search}
+use Rattle.search_model.proofs.WalkSteps.{walked_on, behind_node}
 use Rattle.search_model.specs.Lawful.{Spelled, IsGoal, AreGoals, IsLawful, IsChoice}
-use Rattle.search_model.proofs.RunFacts.{kept}
+use Rattle.fpc_terms.proofs.RunFacts.{kept}
 use Rattle.search_model.proofs.Fine.{IsFine, AreFine, IsStateFine}
 use Rattle.search_model.proofs.BindFacts.{bound_fine}
 use Rattle.search_model.proofs.ExtendFacts.{equalities_are, equalities_spelled, clauses_entries, item_entries, extended_are_fine}

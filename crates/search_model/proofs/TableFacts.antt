@@ -5,7 +5,8 @@ use Rattle.fpc_terms.specs.Open.{IsOpen, Level, level_of}
 use Rattle.fpc_terms.proofs.PutFacts.{put-put, put_agrees, open_put, open_more}
 use Rattle.search_model.specs.Lawful.{IsOpenAt}
 use Rattle.search_model.specs.Search.{SearchCalculus}
-use Rattle.search_model.specs.Table.{ItemOn, derive, pick, init_pick, cut, Table, calculus_of, AreSequents}
+use Rattle.search_model.specs.Table.{ItemOn, derive, pick, init_pick, cut}
+use Rattle.search_model.specs.Table.{Table, calculus_of, AreSequents}
 use Rattle.search_model.proofs.OpenFormulaFacts.{put_same}
 
 module _ (T : Table) (laws : AreSequents T) where

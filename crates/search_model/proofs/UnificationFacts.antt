@@ -16,8 +16,7 @@ use Rattle.search_model.specs.Search.{State, Answer, answer, answer_of, goals_be
 use Rattle.search_model.specs.Search.{put_goal, put_rest, step}
 use Rattle.search_model.specs.Solve.{no_calculus}
 use Rattle.search_model.specs.EqualityRun.{goes_on_after, EqualityIsUnified}
-use Rattle.search_model.proofs.RunFacts.{run_answered, run_spent, run_going}
-use Rattle.search_model.proofs.WalkFacts.{raise-none, raise-more}
+use Rattle.fpc_terms.proofs.RunFacts.{run_answered, run_spent, run_going, raise-none, raise-more}
 
 module _ (C : SearchCalculus) where
   abbrev ProblemOf : Type 0

@@ -4,38 +4,16 @@ use Rattle.std.proofs.Common.{ap, ap₂, ◌∙◌, sym, arith}
 use Rattle.fpc_terms.specs.declared.cell.Cell.{Cell}
 use Rattle.fpc_terms.specs.Equality.{unless, walked_node}
 use Rattle.fpc_terms.specs.Open.{Level, level_of}
+use Rattle.fpc_terms.proofs.RunFacts.{raise-one, raise-none, raise-more}
 use Rattle.fpc_terms.specs.Term.{Term, Args, eigen, bound, variable, app, no_args, arg, joined, cells_before, all_before, cells_of}
 use Rattle.clause_language.specs.declared.clause.Clause.{Clause}
 use Rattle.search_model.specs.Run.{Ending, ended, spent, one_more}
-use Rattle.search_model.specs.Search.{Alternative, Answer, State, between, bound_to, walked_on, walking, behind_node}
+use Rattle.search_model.specs.Search.{Alternative, Answer, State, between, bound_to, walking}
+use Rattle.search_model.proofs.WalkSteps.{walked_on, behind_node}
 use Rattle.search_model.specs.Solve.{Nothing, no_calculus}
 use Rattle.search_model.specs.States.{args_in, first_cell, is_clash, walk_through, raise, running}
 use Rattle.search_model.specs.declared.walk.Walked.{Walked}
 use Rattle.search_model.specs.declared.walk.Walked.TheVariants.{Passed, Clashed, OutOfUnits}
-
-raise-one : {R : Type 0} → (e : Ending R) → raise 1 e ≡ one_more e
-raise-one (ended r u) = ap (ended r) (omega arith)
-raise-one spent = refl
-
--- no units more
-pub raise-none : {R : Type 0} → (e : Ending R) → raise 0 e ≡ e
-raise-none (ended r u) = ap (ended r) (omega arith)
-raise-none spent = refl
-
--- so many units more, and one
-pub raise-more : {R : Type 0} → (k : ℕ) (e : Ending R) → one_more (raise k e) ≡ raise (suc k) e
-raise-more k (ended r u) = ap (ended r) (omega arith)
-raise-more k spent = refl
-
--- one unit more, and so many
-pub raise-one-more : {R : Type 0} → (k : ℕ) (e : Ending R) → raise k (one_more e) ≡ raise (suc k) e
-raise-one-more k (ended r u) = ap (ended r) (omega arith)
-raise-one-more k spent = refl
-
--- some units more, and some more
-pub raise-raise : {R : Type 0} → (j k : ℕ) (e : Ending R) → raise j (raise k e) ≡ raise (j + k) e
-raise-raise j k (ended r u) = ap (ended r) (omega arith)
-raise-raise j k spent = refl
 
 node-is : (v : ℕ) (l : Level) (x : Term) → walked_node v l x ≡ unless (is_clash v l (first_cell x)) (args_in x)
 node-is v l (eigen m) = refl

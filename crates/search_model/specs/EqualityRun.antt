@@ -1,11 +1,12 @@
 -- The search takes an equality as unification does: to its end, in as many units.
 use Rattle.std.specs.Prelude.{◌≡◌, ℕ, ◌-◌, List, [], ◌∷◌}
 use Rattle.fpc_terms.specs.Run.{Ending, ended, spent, raise, run}
-use Rattle.fpc_terms.specs.Unification.{Unification, Unified, solved, unsolvable, unified, unify_step}
+use Rattle.fpc_terms.specs.Unification.{Unification, Unified, solved, unsolvable, unified}
+use Rattle.fpc_terms.specs.Unification.{unify_step}
 use Rattle.clause_language.specs.declared.clause.Clause.{Clause}
 use Rattle.clause_language.specs.LeastModel.{fits}
-use Rattle.search_model.specs.Search.{SearchCalculus, Choice, Alternative, Rest, between, Answer, answer}
-use Rattle.search_model.specs.Search.{of_problem, at_first, put_rest, step}
+use Rattle.search_model.specs.Search.{SearchCalculus, Choice, Alternative, Rest, between, Answer}
+use Rattle.search_model.specs.Search.{answer, of_problem, at_first, put_rest, step}
 use Rattle.search_model.specs.Solve.{Nothing, no_calculus}
 
 -- how a search with n units goes on where unification ended so in its first alternative: from the

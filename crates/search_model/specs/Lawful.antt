@@ -22,8 +22,11 @@ module _ (C : SearchCalculus) (clauses : List Clause) where
   Spelled s [] steps = steps ≡ []
   Spelled s (call a ∷ goals) steps = Holds clauses (put_atom s a) × Spelled s goals steps
   Spelled s (equate t u ∷ goals) steps = (put s t ≡ put s u) × Spelled s goals steps
-  Spelled s (emit e ∷ goals) steps = (rest : List C.StepOf) × (steps ≡ C.put_step s e ∷ rest) × Spelled s goals rest
-  Spelled s (item x ∷ goals) steps = (first rest : List C.StepOf) × (steps ≡ first ++ rest) × C.Completed (C.put_item s x) first × Spelled s goals rest
+  Spelled s (emit e ∷ goals) steps =
+      (rest : List C.StepOf) × (steps ≡ C.put_step s e ∷ rest) × Spelled s goals rest
+  Spelled s (item x ∷ goals) steps =
+      (first rest : List C.StepOf) × (steps ≡ first ++ rest) × C.Completed (C.put_item s x) first
+      × Spelled s goals rest
 
 module _ (C : SearchCalculus) where
   -- the variables of a goal have these levels, and an item is in scope

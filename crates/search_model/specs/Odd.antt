@@ -1,5 +1,5 @@
--- Being natural doesn't follow from the other laws: a calculus that is lawful and complete, and whose
--- goal lists hang on the number of the first new variable.
+-- Being natural doesn't follow from the other laws: a calculus that is lawful and complete, and
+-- whose goal lists hang on the number of the first new variable.
 use Rattle.std.specs.Prelude.{◌≡◌, ℕ, zero, suc, List, [], ◌∷◌}
 use Rattle.clause_language.specs.declared.clause.Clause.{Clause}
 use Rattle.search_model.specs.Search.{SearchCalculus, GoalList}

@@ -5,7 +5,8 @@ use Rattle.fpc_terms.specs.Open.{IsOpen, Level, level_of, IsAtMost}
 use Rattle.polarised_formulas.specs.Formula.{Formula, truth, falsity, atom, conj, disj, implies}
 use Rattle.polarised_formulas.specs.Formula.{for_all, exists, EachInside, Tied}
 use Rattle.polarised_formulas.specs.declared.step.Step.{Step}
-use Rattle.polarised_formulas.specs.declared.step.Step.TheVariants.{Exists, Cut, FocLEvery, FocRExists}
+use Rattle.polarised_formulas.specs.declared.step.Step.TheVariants.{Exists, Cut}
+use Rattle.polarised_formulas.specs.declared.step.Step.TheVariants.{FocLEvery, FocRExists}
 
 -- a term for each variable; it has no bound index, so it goes below quantifiers as it is
 abbrev pub put_formula : (ℕ → Term) → Formula → Formula

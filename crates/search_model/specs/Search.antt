@@ -7,8 +7,8 @@ use Rattle.fpc_terms.specs.Open.{Level, later}
 use Rattle.fpc_terms.specs.Equality.{Equality}
 use Rattle.fpc_terms.specs.Run.{Ending, run}
 use Rattle.fpc_terms.specs.Unification.{Equation, Problem, Unification, unifying, walking_through}
-use Rattle.fpc_terms.specs.Unification.{clashed, equations_before, solved_by, after_equality, through}
-use Rattle.fpc_terms.specs.Unification.{after_node, unify_step}
+use Rattle.fpc_terms.specs.Unification.{clashed, equations_before, solved_by, after_equality}
+use Rattle.fpc_terms.specs.Unification.{unify_step}
 use Rattle.clause_language.specs.declared.atom.Atom.{Atom}
 use Rattle.clause_language.specs.declared.clause.Clause.{Clause}
 use Rattle.clause_language.specs.LeastModel.{put_atom}
@@ -128,8 +128,12 @@ module _ {I S : Type 0} where
   -- the search begins with one goal, and so many variables without level
   abbrev pub start : Goal I S → List Term → ℕ → State I S
   start g asked variables =
-      between
-      (record { goals = g ∷ []; emitted = []; asked = asked; levels = replicate variables None } ∷ [])
+      between (record {
+        goals = g ∷ [];
+        emitted = [];
+        asked = asked;
+        levels = replicate variables None;
+      } ∷ [])
 
 module _ (C : SearchCalculus) where
   -- a goal with a term for each variable
@@ -178,16 +182,6 @@ module _ (C : SearchCalculus) where
       → List (Alternative C.ItemOf C.StepOf) → State C.ItemOf C.StepOf
   equated e a others = at_first (after_equality put_rest e (problem_of [] a)) others
 
-  -- the walk goes on with the nodes to come, or it was whole and binds
-  abbrev pub walked_on : ℕ → Term → Args → Alternative C.ItemOf C.StepOf
-      → List (Alternative C.ItemOf C.StepOf) → State C.ItemOf C.StepOf
-  walked_on v t xs a others = at_first (through put_rest v t xs (problem_of [] a)) others
-
-  -- the state after a node of the walk
-  abbrev pub behind_node : ℕ → Term → Option Args → Args → Alternative C.ItemOf C.StepOf
-      → List (Alternative C.ItemOf C.StepOf) → State C.ItemOf C.StepOf
-  behind_node v t q xs a others = at_first (after_node put_rest v t q xs (problem_of [] a)) others
-
 module _ (C : SearchCalculus) (choice : Choice) (clauses : List Clause) where
   -- a goal is taken, which the first alternative has lost
   abbrev pub taken : Goal C.ItemOf C.StepOf → Alternative C.ItemOf C.StepOf
@@ -195,8 +189,9 @@ module _ (C : SearchCalculus) (choice : Choice) (clauses : List Clause) where
   taken (call b) a others =
       between (map (extended a) (by_clauses C choice b (length a.levels) clauses) ++ others)
   taken (equate t u) a others =
-      at_first
-      (unify_step (put_rest C) (unifying (problem_of (record { left = t; right = u } ∷ []) a))) others
+      let p : Problem (Rest C.ItemOf C.StepOf) =
+      problem_of (record { left = t; right = u } ∷ []) a in
+      at_first (unify_step (put_rest C) (unifying p)) others
   taken (emit e) a others = between (record a { emitted = a.emitted ++ e ∷ [] } ∷ others)
   taken (item x) a others = between (map (extended a) (C.expand x (length a.levels)) ++ others)
 

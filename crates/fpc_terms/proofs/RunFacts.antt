@@ -1,11 +1,35 @@
 -- The law of the budget, for any machine.
-use Rattle.std.proofs.Common.{◌≡◌, ℕ, zero, suc, ◌<◌, ◌≤◌, Option, Some, None, refl, ap, sym, ◌∙◌, arith}
-use Rattle.search_model.specs.Run.{Ending, ended, spent, one_more, run}
+use Rattle.std.proofs.Common.{◌≡◌, ℕ, zero, suc, ◌+◌, ◌<◌, ◌≤◌, Option, Some, None, refl, ap, sym, ◌∙◌, arith}
+use Rattle.fpc_terms.specs.Run.{Ending, ended, spent, one_more, raise, run}
 
 -- one unit more was taken
 one_more_ended : {R : Type 0} (o : Ending R) (r : R) (u : ℕ) → one_more o ≡ ended r u → (w : ℕ) × (u ≡ suc w) × (o ≡ ended r w)
 one_more_ended (ended q w) r u e = (w, (cc), (cc))
 one_more_ended spent r u e = cc
+
+pub raise-one : {R : Type 0} → (e : Ending R) → raise 1 e ≡ one_more e
+raise-one (ended r u) = ap (ended r) (omega arith)
+raise-one spent = refl
+
+-- no units more
+pub raise-none : {R : Type 0} → (e : Ending R) → raise 0 e ≡ e
+raise-none (ended r u) = ap (ended r) (omega arith)
+raise-none spent = refl
+
+-- so many units more, and one
+pub raise-more : {R : Type 0} → (k : ℕ) (e : Ending R) → one_more (raise k e) ≡ raise (suc k) e
+raise-more k (ended r u) = ap (ended r) (omega arith)
+raise-more k spent = refl
+
+-- one unit more, and so many
+pub raise-one-more : {R : Type 0} → (k : ℕ) (e : Ending R) → raise k (one_more e) ≡ raise (suc k) e
+raise-one-more k (ended r u) = ap (ended r) (omega arith)
+raise-one-more k spent = refl
+
+-- some units more, and some more
+pub raise-raise : {R : Type 0} → (j k : ℕ) (e : Ending R) → raise j (raise k e) ≡ raise (j + k) e
+raise-raise j k (ended r u) = ap (ended r) (omega arith)
+raise-raise j k spent = refl
 
 module _ (S R : Type 0) (answer : S → Option R) (step : S → S) where
   -- the run from s ends with r and u units: within each budget that has them, and within no smaller one
