@@ -24,6 +24,7 @@ use Rattle.lkf_rules.specs.Lkf.{lkf}
 use Rattle.explicit_kernel.specs.JudgmentIn.{Judgment, rejected, going, judged, closing, playing, fitting, course, course_of, begin}
 use Rattle.explicit_kernel.specs.Pending.{AreLow}
 use Rattle.explicit_kernel.specs.Progress.{Follows, IsUnfit}
+use Rattle.explicit_kernel.specs.Verdict.{HasFitted}
 use Rattle.explicit_kernel.specs.Check.{HasCome, IsStopped, IsFollowed, Ends, stop_of}
 use Rattle.explicit_kernel.specs.declared.play.Play as play
 use Rattle.explicit_kernel.specs.declared.check.Check as check
@@ -113,6 +114,17 @@ module _ (number : List ℕ → ℕ) where
       by false e = other (go number Lkf (run number Lkf start front) b) refl e
 
 module _ (known names : List (List ℕ)) (goal : Formula) (before bytes : List ℕ) (old mid new : check.Check) (come : HasCome known goal before old) (grows : Grows known names) (same : mid.play ≡ old.play) where
+  -- the bytes before show nothing, and the steps that fitted are theirs
+  fitted-before : (m : ℕ) → m ≡ old.play.fitted → (number : List ℕ → ℕ) → Agrees number names → HasFitted number goal (before ++ bytes) m
+  fitted-before m e number agrees = record {
+    front = before;
+    rest = bytes;
+    parts = refl;
+    read = run number Lkf start before;
+    pending = old.play.pending;
+    shows = come.course number (Agrees-grows known names number grows agrees) ∙ ap (going (run number Lkf start before) old.play.pending) (sym e);
+  }
+
   -- what bytes behind the earlier ones show
   here : (number : List ℕ → ℕ) → Agrees number names → (more : List ℕ) → course_of lkf number goal (before ++ more) ≡ course lkf number (length before) (going (run number Lkf start before) mid.play.pending mid.play.fitted) more
   here number agrees more =
@@ -155,7 +167,7 @@ module _ (known names : List (List ℕ)) (goal : Formula) (before bytes : List �
     -- a step is rejected where its line ends
     pub rejected-in : (stop : Stop) → HasRead Lkf names (before ++ take n bytes) new.reader → IsFollowed mid new (Err stop) → IsStopped names goal (length before) (before ++ bytes) new stop
     rejected-in (Refused x) read h = absurd h
-    rejected-in OutOfMemory read h = tt
+    rejected-in OutOfMemory read h = fitted-before new.play.fitted (h.1 ∙ ap (λ p. p.fitted) same)
     rejected-in (Rejected k) read (is, why) = (sym is, λ number agrees. by number agrees (line number agrees) why)
       where
         st : (number : List ℕ → ℕ) → State
@@ -200,4 +212,4 @@ module _ (known names : List (List ℕ)) (goal : Formula) (before bytes : List �
   -- what the reader tells in the line
   pub told-in : (f : StepFault) → IsFed Lkf names before bytes (Err f) mid.reader → IsStopped names goal (length before) (before ++ bytes) mid (stop_of f)
   told-in (ReaderRefused x) fed = refused-in x fed
-  told-in ReaderNoMemory fed = tt
+  told-in ReaderNoMemory fed = fitted-before mid.play.fitted (ap (λ p. p.fitted) same)

@@ -17,11 +17,12 @@ use Rattle.explicit_form.specs.Feeding.{IsFinished}
 use Rattle.explicit_form.specs.declared.step_reader.StepFault.{StepFault}
 use Rattle.explicit_form.specs.declared.step_reader.StepFault.TheVariants.{Refused as ReaderRefused, OutOfMemory as ReaderNoMemory}
 use Rattle.explicit_form.proofs.Refusals.{untold-outcome}
+use Rattle.polarised_formulas.specs.Calculus.Play.{start_of}
 use Rattle.lkf_rules.specs.Lkf.{lkf}
 use Rattle.lkf_rules.proofs.Sound.{lkf_is_lawful}
 use Rattle.explicit_kernel.specs.JudgmentIn.{accepted, rejected, refused, going, judged, at_end, course_of, judgment}
 use Rattle.explicit_kernel.specs.Check.{HasCome, IsStopped, IsFinal, stop_of, IsAnswerTo}
-use Rattle.explicit_kernel.specs.Verdict.{IsJudged, IsRight}
+use Rattle.explicit_kernel.specs.Verdict.{HasFitted, IsJudged, IsRight}
 use Rattle.explicit_kernel.proofs.JudgmentLaws.{accepted_is_spelled}
 use Rattle.explicit_kernel.specs.declared.check.Check as check
 use Rattle.explicit_kernel.specs.declared.check.Stop.{Stop}
@@ -71,13 +72,13 @@ module _ (names : List (List ℕ)) (goal : Formula) (bytes : List ℕ) (c : chec
       let number = number_in (length names) names in
       let agrees = Agrees-number_in (length names) names differ in
       (ap (λ r. r.at) (unfinished number agrees x (h number agrees)).0, λ number agrees. (unfinished number agrees x (h number agrees)).1)
-  final differ ReaderNoMemory h = tt
+  final differ ReaderNoMemory h = h (number_in (length names) names) (Agrees-number_in (length names) names differ)
 
 -- what is shown behind more bytes is shown behind fewer
 pub stopped-from : (names : List (List ℕ)) (goal : Formula) (least less : ℕ) (bytes more : List ℕ) (c : check.Check) (stop : Stop) → less ≤ least → bytes ≡ more → IsStopped names goal least bytes c stop → IsStopped names goal less more c stop
 stopped-from names goal least less bytes more c (Rejected k) low e (f, h) = (f, λ number agrees. let r = h number agrees in (r.0, (subst (λ bs. course_of lkf number goal bs ≡ judged (rejected k r.0)) e r.1.0, (let l = r.1.1 in omega (arith, low, l)))))
 stopped-from names goal least less bytes more c (Refused x) low e h = λ number agrees. let r = h number agrees in (subst (λ bs. course_of lkf number goal bs ≡ judged (refused x c.play.fitted)) e r.0, (let l = r.1 in omega (arith, low, l)))
-stopped-from names goal least less bytes more c OutOfMemory low e h = tt
+stopped-from names goal least less bytes more c OutOfMemory low e h = λ number agrees. subst (λ bs. HasFitted number goal bs c.play.fitted) e (h number agrees)
 
 -- the rest of a piece behind some of its bytes
 pub rest-is : (piece : List ℕ) (fed : ℕ) → take (length piece - fed) (drop fed piece) ≡ drop fed piece
@@ -98,8 +99,13 @@ IsAtEnd-nothing (Some x) None h t = tt
 IsAtEnd-nothing (Some x) (Some y) h t = sym t ∙ h
 
 -- no byte is taken, and there was no memory
-pub judged-memory : (names : List (List ℕ)) (goal : Formula) (left : Option (List ℕ)) (before now : ℕ) → IsJudged names goal left left before now (Err NoMemory)
-judged-memory names goal left before now = record { bytes = []; taken = TakesFront-nothing left; shown = λ number agrees. tt }
+pub judged-memory : (names : List (List ℕ)) (goal : Formula) (left : Option (List ℕ)) (ticks : ℕ) → IsJudged names goal left left ticks ticks (Err NoMemory)
+judged-memory names goal left ticks = record {
+  bytes = [];
+  taken = TakesFront-nothing left;
+  shown = λ number agrees. tt;
+  fitted = λ e number agrees. (0, (record { front = []; rest = []; parts = refl; read = start; pending = start_of lkf goal; shows = refl }, omega arith));
+}
 
 module _ (names : List (List ℕ)) (goal : Formula) (old mid new : Option (List ℕ)) (before now : ℕ) (front : List ℕ) (c : check.Check) (taken : TakesFront old front mid) (come : HasCome names goal front c) (ticks : now ≡ before + c.play.fitted) where
   -- a read failed behind bytes that show nothing
@@ -108,6 +114,7 @@ module _ (names : List (List ℕ)) (goal : Formula) (old mid new : Option (List 
     bytes = front;
     taken = subst (TakesFront old front) (sym e) taken;
     shown = λ number agrees. (run number Lkf start front, (c.play.pending, (c.play.fitted, (come.course number agrees, ticks))));
+    fitted = λ e. let no : ⊥ = cc in absurd no;
   }
 
   module _ (at_the_end : IsAtEnd mid) (same : TakesFront mid [] new) where
@@ -118,13 +125,13 @@ module _ (names : List (List ℕ)) (goal : Formula) (old mid new : Option (List 
     left-end = IsAtEnd-nothing mid new at_the_end same
 
     pub judged-accepted : (n : ℕ) → IsFinal names goal front c (Ok n) → IsJudged names goal old new before now (Ok (Accepted n))
-    judged-accepted n (is, h) = record { bytes = front; taken = ended-so; shown = λ number agrees. (h number agrees, left-end, omega (arith, ticks, is)) }
+    judged-accepted n (is, h) = record { bytes = front; taken = ended-so; shown = λ number agrees. (h number agrees, left-end, omega (arith, ticks, is)); fitted = λ e. let no : ⊥ = cc in absurd no }
 
     pub judged-unfinished : (stop : Stop) (answer : Result Verdict VerifyRefusal) → IsFinal names goal front c (Err stop) → IsAnswerTo stop answer → IsJudged names goal old new before now answer
     judged-unfinished (Rejected k) answer h e = absurd h
     judged-unfinished (Refused r) answer (lies, h) e =
-        rw e (record { bytes = front; taken = ended-so; shown = λ number agrees. (c.play.fitted, (h number agrees, inl left-end, omega (arith, lies), ticks)) })
-    judged-unfinished OutOfMemory answer h e = rw e (record { bytes = front; taken = ended-so; shown = λ number agrees. tt })
+        rw e (record { bytes = front; taken = ended-so; shown = λ number agrees. (c.play.fitted, (h number agrees, inl left-end, omega (arith, lies), ticks)); fitted = λ e. let no : ⊥ = cc in absurd no })
+    judged-unfinished OutOfMemory answer h e = absurd h
 
 -- the bytes of a piece show why the check stopped
 pub judged-stop : (names : List (List ℕ)) (goal : Formula) (old mid new : Option (List ℕ)) (before now : ℕ) (front piece : List ℕ) (c : check.Check) (stop : Stop) (answer : Result Verdict VerifyRefusal)
@@ -136,6 +143,7 @@ judged-stop names goal old mid new before now front piece c (Rejected k) answer 
       shown = λ number agrees.
           let r = h number agrees in let low = r.1.1 in let l = length-append front piece in
           (r.0, (r.1.0, omega (arith, low, l), omega (arith, is)));
+      fitted = λ e. let no : ⊥ = cc in absurd no;
     })
 judged-stop names goal old mid new before now front piece c (Refused r) answer taken more short ticks h e =
     rw e (record {
@@ -144,9 +152,10 @@ judged-stop names goal old mid new before now front piece c (Refused r) answer t
       shown = λ number agrees.
           let s = h number agrees in let low = s.1 in let l = length-append front piece in
           (c.play.fitted, (ap (at_end (length (front ++ piece))) s.0, inr s.0, omega (arith, low, l), ticks));
+      fitted = λ e. let no : ⊥ = cc in absurd no;
     })
 judged-stop names goal old mid new before now front piece c OutOfMemory answer taken more short ticks h e =
-    rw e (record { bytes = front ++ piece; taken = TakesFront-more old mid new front piece taken more; shown = λ number agrees. tt })
+    rw e (record { bytes = front ++ piece; taken = TakesFront-more old mid new front piece taken more; shown = λ number agrees. tt; fitted = λ _ number agrees. (c.play.fitted, (h number agrees, ticks)) })
 
 -- what is accepted is spelled, and derivable
 pub right-of : (names : List (List ℕ)) (goal : Formula) (old new : Option (List ℕ)) (before now : ℕ) (answer : Result Verdict VerifyRefusal) → AreDifferent names → IsClosed goal → IsJudged names goal old new before now answer

@@ -4,6 +4,7 @@ pub mod NamingFacts
 pub mod Courses
 pub mod Coming
 pub mod Judging
+pub mod NamesAdded
 pub mod Standing
 pub mod JudgmentLaws
 pub mod RejectionLaws

@@ -131,6 +131,10 @@ pub cut-same : (n k m : ℕ) (s t : List Formula) (cs ds : List Cell) (os : List
 cut-same n k m s t cs ds os below low e lowest =
     rw e (sequents-same (take k s) s ds cs n k os below (λ i h. chain-lowest cs ds m i (omega (arith, h, low)) lowest) (λ i h. take-take i k s h))
 
+-- no more cells are left than are needed
+pub cut-dropped : (floor rest m : ℕ) (cs ds : List Cell) → ((n : ℕ) → floor ≤ n → rest ≤ n → m ≤ n) → IsLowest cs m ds → (n : ℕ) → floor ≤ n → rest ≤ n → length ds ≤ n
+cut-dropped floor rest m cs ds one lowest n low below = let long = length-lowest cs ds m lowest in let most = one n low below in omega (arith, long, most)
+
 -- where the sequents need no more than a floor, all is sound
 pub ready-sound : (n : ℕ) (x : Shared) → IsReady n x → IsSound x
 ready-sound n x h = record {

@@ -10,7 +10,8 @@ use Rattle.explicit_form.specs.declared.step_reader.StepReader.{StepReader}
 use Rattle.explicit_form.specs.declared.step_reader.StepFault.{StepFault}
 use Rattle.explicit_form.specs.declared.step_reader.StepFault.TheVariants.{Refused as ReaderRefused, OutOfMemory as ReaderNoMemory}
 use Rattle.explicit_kernel.specs.Pending.{AreLow}
-use Rattle.explicit_kernel.specs.Progress.{Follows, IsUnfit}
+use Rattle.explicit_kernel.specs.Progress.{Follows, IsUnfit, IsShort}
+use Rattle.explicit_kernel.specs.Verdict.{HasFitted}
 use Rattle.explicit_kernel.specs.Judgment.{going, judged, accepted, rejected, refused, course_of, judgment}
 use Rattle.explicit_kernel.specs.declared.verify.Verdict.{Verdict}
 use Rattle.explicit_kernel.specs.declared.verify.Verdict.TheVariants.{Rejected}
@@ -43,7 +44,8 @@ IsStopped names goal least bytes c (StopsRejected k) =
     (c.play.fitted + 1 ≡ k) × ((number : List ℕ → ℕ) → Agrees number names → (place : ℕ) × ((course_of number goal bytes ≡ judged (rejected k place)) × (least ≤ place)))
 IsStopped names goal least bytes c (StopsRefused r) =
     (number : List ℕ → ℕ) → Agrees number names → (course_of number goal bytes ≡ judged (refused r c.play.fitted)) × (least ≤ r.at + 2)
-IsStopped names goal least bytes c StopsNoMemory = Unit {0}
+IsStopped names goal least bytes c StopsNoMemory =
+    (number : List ℕ → ℕ) → Agrees number names → HasFitted number goal bytes c.play.fitted
 
 -- The answer to bytes behind others: so many of them are taken and show nothing, or they show why the check stopped.
 abbrev pub IsTakenOn : List (List ℕ) → Formula → List ℕ → List ℕ → Result ℕ Stop → check.Check → Type 0
@@ -61,14 +63,15 @@ IsClosed c (Err (StopsRejected k)) = (k ≡ c.play.fitted + 1) × (c.play.pendin
 IsClosed c (Err (StopsRefused r)) = ⊥
 IsClosed c (Err StopsNoMemory) = ⊥
 
--- the step that the reader has, if any, was played, or is rejected
+-- the step that the reader has, if any, was played, or is rejected, or memory ran out in playing it
 abbrev pub IsFollowed : check.Check → check.Check → Result (Unit {0}) Stop → Type 0
 IsFollowed old new (Ok u) = Follows old.reader.step old.play new.play × ((new.play.pending ≡ []) ⊎ Ends false new.reader)
 IsFollowed old new (Err (StopsRejected k)) =
     (k ≡ new.play.fitted + 1)
     × ((IsUnfit old.reader.step old.play × (new.play.fitted ≡ old.play.fitted)) ⊎ (Follows old.reader.step old.play new.play × (new.play.pending ≢ []) × Ends true new.reader))
 IsFollowed old new (Err (StopsRefused r)) = ⊥
-IsFollowed old new (Err StopsNoMemory) = Unit {0}
+IsFollowed old new (Err StopsNoMemory) =
+    IsShort old.reader.step old.play × (new.play.fitted ≡ old.play.fitted)
 
 -- why the check stops where the reader tells a fault
 abbrev pub stop_of : StepFault → Stop
@@ -80,7 +83,7 @@ abbrev pub IsFinal : List (List ℕ) → Formula → List ℕ → check.Check �
 IsFinal names goal bytes c (Ok n) = (n ≡ c.play.fitted) × ((number : List ℕ → ℕ) → Agrees number names → judgment number goal bytes ≡ accepted n)
 IsFinal names goal bytes c (Err (StopsRejected k)) = ⊥
 IsFinal names goal bytes c (Err (StopsRefused r)) = (r.at ≡ length bytes) × ((number : List ℕ → ℕ) → Agrees number names → judgment number goal bytes ≡ refused r c.play.fitted)
-IsFinal names goal bytes c (Err StopsNoMemory) = Unit {0}
+IsFinal names goal bytes c (Err StopsNoMemory) = ⊥
 
 -- the answer where the check stopped
 abbrev pub IsAnswerTo : Stop → Result Verdict VerifyRefusal → Type 0

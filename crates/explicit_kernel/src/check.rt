@@ -1,6 +1,8 @@
 //! A certificate that is being checked.
 ghost use Rattle.std.specs.Prelude.{◌≡◌, ℕ, ◌+◌, ◌<◌, ◌≤◌, ◌^◌, List, ◌++◌, [], length, IfOk, IfErr, OnOk};
 ghost use Rattle.fpc_terms.specs.Name.{AreDifferent, Grows};
+ghost use Rattle.fpc_terms.specs.Adding.{AddsOnly};
+ghost use Rattle.polarised_formulas.specs.Adding.{IsPartIn};
 ghost use Rattle.polarised_formulas.specs.Formula.{Formula};
 ghost use Rattle.polarised_formulas.specs.declared.logic.Logic.{Logic};
 ghost use Rattle.explicit_form.specs.Feeding.{HasRead};
@@ -57,6 +59,8 @@ impl Check {
     ) -> Result<(), Stop>
         requires under_way { IsUnderWay names.old self.old }
         ensures grows { Grows names.old names.new }
+        ensures only { (goal : Formula) (before : List ℕ) → HasCome names.old goal before self.old
+            → AddsOnly (IsPartIn before piece.now) names.old names.new }
         ensures come { (goal : Formula) (before : List ℕ) → HasCome names.old goal before self.old → OnOk result (HasCome names.new goal (before ++ piece.now) self.new) }
         ensures stopped { (goal : Formula) (before : List ℕ) → HasCome names.old goal before self.old
             → IfErr result (IsStopped names.new goal (length before) (before ++ piece.now) self.new) }
@@ -83,6 +87,8 @@ impl Check {
         requires under_way { IsUnderWay names.old self.old }
         requires some { 0 < length bytes.now }
         ensures grows { Grows names.old names.new }
+        ensures only { (goal : Formula) (before : List ℕ) → HasCome names.old goal before self.old
+            → AddsOnly (IsPartIn before bytes.now) names.old names.new }
         ensures taken { (goal : Formula) (before : List ℕ) → HasCome names.old goal before self.old → IsTakenOn names.new goal before bytes.now result self.new }
         ensures within { IfOk result (λ n. n ≤ length bytes.now) }
         ensures moves { IfOk result (λ n. 0 < n) }

@@ -3,6 +3,7 @@ ghost use Rattle.std.specs.Prelude.{◌≡◌, ◌≢◌, ◌↔◌, ◌<◌, �
 ghost use Rattle.std.specs.List.{AllByRecursion};
 ghost use Rattle.lkf_rules.specs.Sequent.{Levelled};
 ghost use Rattle.lkf_rules.specs.Play.{PlaysOne, start_of};
+ghost use Rattle.explicit_kernel.specs.Progress.{MayRunOutAt};
 
 use crate::shared::Shared;
 use fpc_base::outside::OutOfMemory;
@@ -51,13 +52,15 @@ impl Pending {
         self.shared.is_empty()
     }
 
-    /// Replaces the next sequent by the premises of the rule instance that the step names, which stand before the others.
-    /// Where no sequent is left, or the step names no instance at the next one, it does not fit; a `cut` may run out of memory before that is known.
-    /// Time and memory are linear in the sizes of the formula that the step works on and of the step, but for what is dropped.
+    /// Replaces the next sequent by the premises of the rule instance that the step names, which stand
+    /// before the others. Where no sequent is left, or the step names no instance at the next one, it does
+    /// not fit; a `cut` may run out of memory before that is known. Time and memory are linear in the
+    /// sizes of the formula that the step works on and of the step, but for what is dropped.
     pub(crate) fn play(&mut self, alloc: Global, step: &Step) -> Result<(), StepRefusal>
         requires levels { AllByRecursion (λ p. p.0 < 2 ^ 64 - 1) self.old }
         ensures fits { OnOk result (PlaysOne self.old step.now self.new) }
         ensures unfit { result ≡ Err StepRefusal.DoesNotFit ↔ ((r : List Levelled) → PlaysOne self.old step.now r → ⊥) × (result ≢ Err StepRefusal.OutOfMemory) }
+        ensures memory { result ≡ Err StepRefusal.OutOfMemory → MayRunOutAt step.now self.old }
     {
         match self.shared.effect(alloc, step) {
             Ok(effect) => match self.shared.replace_first(effect) {

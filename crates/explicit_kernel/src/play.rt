@@ -3,7 +3,7 @@ ghost use Rattle.std.specs.Prelude.{◌≡◌, ◌↔◌, List, ◌+◌, ◌-◌
 ghost use Rattle.lkf_rules.specs.Sequent.{Levelled};
 ghost use Rattle.lkf_rules.specs.Play.{PlaysOne, start_of};
 ghost use Rattle.explicit_kernel.specs.Pending.{AreLow};
-ghost use Rattle.explicit_kernel.specs.Progress.{Follows, IsUnfit};
+ghost use Rattle.explicit_kernel.specs.Progress.{Follows, IsUnfit, IsShort, MayRunOutAt};
 
 use crate::pending::Pending;
 use fpc_base::outside::OutOfMemory;
@@ -48,6 +48,7 @@ impl Play {
         ensures one { OnOk result (self.new.fitted ≡ self.old.fitted + 1) }
         ensures ticks { OnOk result (steps.new ≡ steps.old + 1) }
         ensures unfit { result ≡ Err StepRefusal.DoesNotFit ↔ ((r : List Levelled) → PlaysOne self.old.pending step.now r → ⊥) × (result ≢ Err StepRefusal.OutOfMemory) }
+        ensures memory { result ≡ Err StepRefusal.OutOfMemory → MayRunOutAt step.now self.old.pending }
         ensures none { OnErr result (self.new.fitted ≡ self.old.fitted) }
         ensures no_tick { OnErr result (steps.new ≡ steps.old) }
     {
@@ -74,6 +75,7 @@ impl Play {
         ensures low { OnOk result (AreLow self.new.fitted self.new.pending) }
         ensures one { self.new.fitted ≤ self.old.fitted + 1 }
         ensures unfit { result ≡ Err StepRefusal.DoesNotFit → IsUnfit step self.old }
+        ensures memory { result ≡ Err StepRefusal.OutOfMemory → IsShort step self.old }
         ensures none { OnErr result (self.new.fitted ≡ self.old.fitted) }
         ensures ticks { steps.new + self.old.fitted ≡ steps.old + self.new.fitted }
     {

@@ -170,6 +170,7 @@ impl Shared {
         ensures stored { self.new.stored.items ≡ take stored self.old.stored.items }
         ensures chain { chain self.new.cells rest ≡ chain self.old.cells rest }
         ensures pending { pending_of self.new ≡ pending_of self.old }
+        ensures dropped { (n : ℕ) → floor ≤ n → rest ≤ n → length self.new.cells ≤ n }
     {
         self.stored.truncate(stored);
         self.cells.keep(larger(floor, rest));

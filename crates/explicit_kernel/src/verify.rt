@@ -4,7 +4,7 @@ ghost use Rattle.fpc_terms.specs.Name.{Grows};
 ghost use Rattle.polarised_formulas.specs.Formula.{IsClosed, IsLkf};
 ghost use Rattle.polarised_formulas.specs.declared.logic.Logic.TheVariants.{Lkf};
 ghost use Rattle.explicit_kernel.specs.Check.{IsAnswerTo};
-ghost use Rattle.explicit_kernel.specs.Verdict.{IsJudged, IsRight, HasReason};
+ghost use Rattle.explicit_kernel.specs.Verdict.{IsJudged, IsRight, HasReason, AddsRead};
 
 use crate::check::{Check, Stop};
 use fpc_base::outside::{Failed, Source};
@@ -67,6 +67,7 @@ fn verify_through<S: Source, L: Ledger>(
     ensures opened { S.opened source.new ≡ S.opened source.old }
     ensures calls { S.calls source.new ≤ S.calls source.old + 67_108_864 + 1 }
     ensures grows { Grows names.old names.new }
+    ensures only { AddsRead (S.left source.old) (S.left source.new) names.old names.new }
 {
     let mut check = match Check::start(alloc, goal) {
         Ok(check) => check,
@@ -94,9 +95,9 @@ fn verify_through<S: Source, L: Ledger>(
 }
 
 /// Checks the explicit certificate that the source holds for the problem's goal, as its bytes come: each step replaces the next
-/// sequent by the premises of the rule that it names. Each step that fits is one tick. A step is judged when its line end is
-/// read, so of a refusal and a rejection the one that lies first is told. At most 65,536 bytes are taken behind the byte at which
-/// an answer lies. Time is linear in the bytes and in the sizes of the formulas that the steps work on; memory is that of the
+/// sequent by the premises of the rule that it names. Each step that fits is one tick. A step is judged
+/// when its line end is read, so of a refusal and a rejection the one that lies first is reported. At
+/// most 65,536 bytes are taken after the byte at which an answer lies. Time is linear in the bytes and in the sizes of the formulas that the steps work on; memory is that of the
 /// sequents still to be derived, of one line and of the names.
 pub fn verify<S: Source, L: Ledger>(
     alloc: Global,
@@ -117,6 +118,7 @@ pub fn verify<S: Source, L: Ledger>(
     ensures opened { S.opened source.new ≡ S.opened source.old }
     ensures calls { S.calls source.new ≤ S.calls source.old + 67_108_864 + 1 }
     ensures grows { Grows names.old names.new }
+    ensures only { AddsRead (S.left source.old) (S.left source.new) names.old names.new }
 {
     let mut buffer = match vec![in alloc; 0u8; PIECE] {
         Ok(buffer) => buffer,

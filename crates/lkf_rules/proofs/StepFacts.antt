@@ -29,7 +29,7 @@ pub ruleset step_facts = (is_unbound)
 pub ruleset cut_facts = (is_lkf)
 
 -- memory may run out at each step that names premises
-MayRunOut-some : (step : Step) (o : Option (List Levelled)) → IsSome o → MayRunOut step o
+pub MayRunOut-some : (step : Step) (o : Option (List Levelled)) → IsSome o → MayRunOut step o
 MayRunOut-some (Cut b) o h = tt
 MayRunOut-some _ o h = h
 

@@ -2,15 +2,18 @@ use Rattle.std.proofs.Common.{◌++◌, [], take, refl, sym, subst, arith}
 use Rattle.std.proofs.lemmas.List.{length-append}
 use Rattle.fpc_base.specs.Outside.{TakesFront}
 use Rattle.fpc_base.proofs.Moves.{TakesFront-nothing, TakesFront-more}
+use Rattle.fpc_terms.proofs.AddingFacts.{AddsOnly-same}
+use Rattle.polarised_formulas.specs.Adding.{IsPartOf}
+use Rattle.explicit_kernel.proofs.NamesAdded.{added-all, added-none, added-end}
 use Rattle.explicit_kernel.proofs.Judging.{judged-memory, judged-fault, judged-accepted, judged-unfinished, judged-stop}
 use Rattle.explicit_kernel.proofs.verify.verify_through.Goals as goal
 
 pub returns-in-Err-clause-judged : goal.returns-in-Err-clause-judged
-returns-in-Err-clause-judged g c = judged-memory c.args.names.now c.args.goal.now (g.S.Source.left c.args.source.now) c.args.steps.now c.args.steps.now
+returns-in-Err-clause-judged g c = judged-memory c.args.names.now c.args.goal.now (g.S.Source.left c.args.source.now) c.args.steps.now
 
 pub loop-names-init : goal.loop-names-init
 loop-names-init g c = (
-  ([], (TakesFront-nothing (g.S.Source.left c.args.source.now), (c.in-Ok.ensures.come c.args.names.now, omega arith))),
+  ([], (TakesFront-nothing (g.S.Source.left c.args.source.now), (c.in-Ok.ensures.come c.args.names.now, (omega arith, AddsOnly-same (IsPartOf []) c.args.names.now)))),
   λ k text h. h,
   omega (arith, c.in-Ok.ensures.fitted),
   refl,
@@ -48,13 +51,19 @@ pub loop-names-preserved : goal.loop-names-preserved
 loop-names-preserved g c =
     let r = c.loop-names.invariant.0 in
     let l = length-append r.0 c.split_at.result.0.now in
-    let few = r.1.1.1 in (
+    let few = r.1.1.1.0 in (
       (
         r.0 ++ c.split_at.result.0.now,
         (
           TakesFront-more (g.S.Source.left c.args.source.now) (g.S.Source.left c.loop-names.source) (g.S.Source.left c.read.new.self) r.0 c.split_at.result.0.now r.1.0
               (subst (λ bs. TakesFront (g.S.Source.left c.loop-names.source) bs (g.S.Source.left c.read.new.self)) (sym c.split_at.ensures.front) c.in-Ok-read.ensures.taken),
-          (c.in-Ok-take_piece.ensures.come c.args.goal.now r.0 r.1.1.0, omega (arith, c.in-Ok-read.ensures.calls, l, few, c.split_at.ensures.front_len, c.in-Ok-read.n-test)),
+          (
+            c.in-Ok-take_piece.ensures.come c.args.goal.now r.0 r.1.1.0,
+            (
+              omega (arith, c.in-Ok-read.ensures.calls, l, few, c.split_at.ensures.front_len, c.in-Ok-read.n-test),
+              added-all r.0 c.split_at.result.0.now c.args.names.now c.loop-names.names c.take_piece.new.names r.1.1.1.1 (c.in-Ok-take_piece.ensures.only c.args.goal.now r.0 r.1.1.0),
+            ),
+          ),
         ),
       ),
       λ k text h. c.in-Ok-take_piece.ensures.grows k text (c.loop-names.invariant.1 k text h),
@@ -78,3 +87,37 @@ returns-in-Err-read-clause-judged g c =
     let r = c.loop-names.invariant.0 in
     judged-fault c.loop-names.names c.args.goal.now (g.S.Source.left c.args.source.now) (g.S.Source.left c.loop-names.source) (g.S.Source.left c.read.new.self) c.args.steps.now c.loop-names.steps r.0 c.loop-names.check r.1.0 r.1.1.0
     c.loop-names.invariant.2 c.in-Err-read.ensures.none_taken
+
+pub returns-in-Err-clause-only : goal.returns-in-Err-clause-only
+returns-in-Err-clause-only g c = added-none c.args.names.now (g.S.Source.left c.args.source.now)
+
+pub returns-in-Ok-finish-clause-only : goal.returns-in-Ok-finish-clause-only
+returns-in-Ok-finish-clause-only g c =
+    let r = c.loop-names.invariant.0 in
+    added-end c.args.names.now c.loop-names.names (g.S.Source.left c.args.source.now) (g.S.Source.left c.loop-names.source) (g.S.Source.left c.read.new.self) r.0 r.1.0 r.1.1.1.1
+    (subst (λ n. TakesFront (g.S.Source.left c.loop-names.source) (take n c.read.new.buf) (g.S.Source.left c.read.new.self)) c.in-Ok-eq0.field-0-test c.in-Ok-eq0.ensures.taken)
+
+pub returns-in-Err-finish-clause-only : goal.returns-in-Err-finish-clause-only
+returns-in-Err-finish-clause-only g c =
+    let r = c.loop-names.invariant.0 in
+    added-end c.args.names.now c.loop-names.names (g.S.Source.left c.args.source.now) (g.S.Source.left c.loop-names.source) (g.S.Source.left c.read.new.self) r.0 r.1.0 r.1.1.1.1
+    (subst (λ n. TakesFront (g.S.Source.left c.loop-names.source) (take n c.read.new.buf) (g.S.Source.left c.read.new.self)) c.in-Ok-eq0.field-0-test c.in-Ok-eq0.ensures.taken)
+
+pub returns-in-Err-take_piece-clause-only : goal.returns-in-Err-take_piece-clause-only
+returns-in-Err-take_piece-clause-only g c =
+    let r = c.loop-names.invariant.0 in
+    record {
+      bytes = r.0 ++ c.split_at.result.0.now;
+      taken = TakesFront-more (g.S.Source.left c.args.source.now) (g.S.Source.left c.loop-names.source) (g.S.Source.left c.read.new.self) r.0 c.split_at.result.0.now r.1.0
+          (subst (λ bs. TakesFront (g.S.Source.left c.loop-names.source) bs (g.S.Source.left c.read.new.self)) (sym c.split_at.ensures.front) c.in-Ok-read.ensures.taken);
+      only = added-all r.0 c.split_at.result.0.now c.args.names.now c.loop-names.names c.take_piece.new.names r.1.1.1.1 (c.in-Err-take_piece.ensures.only c.args.goal.now r.0 r.1.1.0);
+    }
+
+pub returns-in-Err-read-clause-only : goal.returns-in-Err-read-clause-only
+returns-in-Err-read-clause-only g c =
+    let r = c.loop-names.invariant.0 in
+    record {
+      bytes = r.0;
+      taken = subst (TakesFront (g.S.Source.left c.args.source.now) r.0) (sym c.in-Err-read.ensures.none_taken) r.1.0;
+      only = r.1.1.1.1;
+    }

@@ -2,6 +2,7 @@ use Rattle.std.proofs.Common.{◌++◌, length, take, subst, sym, refl}
 use Rattle.polarised_formulas.specs.declared.logic.Logic.TheVariants.{Lkf}
 use Rattle.explicit_kernel.specs.Check.{IsStopped}
 use Rattle.explicit_kernel.specs.declared.check.Check as check
+use Rattle.explicit_kernel.proofs.NamesAdded.{added-line}
 use Rattle.explicit_kernel.proofs.Coming.{come-on, rejected-in, told-in}
 use Rattle.explicit_kernel.proofs.check.Check.take_line.Goals as goal
 
@@ -26,3 +27,15 @@ returns-in-Err-clause-taken g c = λ goal before come.
     let mid : check.Check = record { reader = c.feed.new.self; play = c.args.self.now.play } in
     subst (IsStopped c.feed.new.names goal (length before) (before ++ c.args.bytes.now) mid) (sym c.stop_at.ensures)
     (told-in c.args.names.now c.feed.new.names goal before c.args.bytes.now c.args.self.now mid mid come c.feed.ensures.grows refl c.in-Err.fault (c.in-Err.ensures.fed Lkf c.args.names.now before come.read (λ k text h. h)))
+
+pub returns-in-Ok-judge-clause-only : goal.returns-in-Ok-judge-clause-only
+returns-in-Ok-judge-clause-only g c = λ goal before come.
+    added-line before c.args.bytes.now c.args.names.now c.feed.new.names (c.feed.ensures.only Lkf c.args.names.now before come.read (λ k text h. h))
+
+pub returns-in-Err-judge-clause-only : goal.returns-in-Err-judge-clause-only
+returns-in-Err-judge-clause-only g c = λ goal before come.
+    added-line before c.args.bytes.now c.args.names.now c.feed.new.names (c.feed.ensures.only Lkf c.args.names.now before come.read (λ k text h. h))
+
+pub returns-in-Err-clause-only : goal.returns-in-Err-clause-only
+returns-in-Err-clause-only g c = λ goal before come.
+    added-line before c.args.bytes.now c.args.names.now c.feed.new.names (c.feed.ensures.only Lkf c.args.names.now before come.read (λ k text h. h))

@@ -1,6 +1,7 @@
 use Rattle.std.proofs.Common.{◌++◌, ◌-◌, take, drop, length, subst, arith}
 use Rattle.std.proofs.lemmas.List.{take_all, length-append}
 use Rattle.explicit_kernel.specs.Check.{HasCome}
+use Rattle.explicit_kernel.proofs.NamesAdded.{added-piece}
 use Rattle.explicit_kernel.proofs.Judging.{stopped-from, come-taken, whole-is}
 use Rattle.explicit_kernel.proofs.check.Check.take_piece.Goals as goal
 
@@ -16,6 +17,9 @@ loop-fed-preserved g c = (
       come-taken c.take_line.new.names goal before c.args.piece.now c.loop-fed.fed c.in-Ok.n c.take_line.new.self
       (c.in-Ok.ensures.taken goal (before ++ take c.loop-fed.fed c.args.piece.now) (c.loop-fed.invariant.2 goal before come)),
   omega (arith, c.in-Ok.ensures.ticks, c.loop-fed.invariant.3),
+  λ goal before come.
+      added-piece before c.args.piece.now c.loop-fed.fed c.args.names.now c.loop-fed.names c.take_line.new.names (c.loop-fed.invariant.4 goal before come)
+      (c.in-Ok.ensures.only goal (before ++ take c.loop-fed.fed c.args.piece.now) (c.loop-fed.invariant.2 goal before come)),
 )
 
 pub returns-in-Err-clause-stopped : goal.returns-in-Err-clause-stopped
@@ -29,3 +33,11 @@ returns-in-Err-clause-stopped g c = λ goal before come.
 pub returns-clause-come : goal.returns-clause-come
 returns-clause-come g c = λ goal before come.
     subst (λ bs. HasCome c.loop-fed.names goal (before ++ bs) c.loop-fed.self) (take_all c.loop-fed.fed c.args.piece.now (omega (arith, c.loop-fed-test.false))) (c.loop-fed.invariant.2 goal before come)
+
+pub returns-in-Err-clause-only : goal.returns-in-Err-clause-only
+returns-in-Err-clause-only g c = λ goal before come.
+    added-piece before c.args.piece.now c.loop-fed.fed c.args.names.now c.loop-fed.names c.take_line.new.names (c.loop-fed.invariant.4 goal before come)
+    (c.in-Err.ensures.only goal (before ++ take c.loop-fed.fed c.args.piece.now) (c.loop-fed.invariant.2 goal before come))
+
+pub returns-clause-only : goal.returns-clause-only
+returns-clause-only g c = c.loop-fed.invariant.4

@@ -1,5 +1,7 @@
 use Rattle.std.proofs.Common.{ℕ, ◌≤◌, ◌-◌, ◌++◌, List, length, take}
 use Rattle.fpc_terms.specs.Name.{Grows}
+use Rattle.fpc_terms.specs.Adding.{AddsOnly}
+use Rattle.polarised_formulas.specs.Adding.{IsPartIn}
 use Rattle.polarised_formulas.specs.Formula.{Formula}
 use Rattle.explicit_kernel.specs.Check.{HasCome, HasTicks}
 use Rattle.explicit_kernel.proofs.check.Check.take_piece.Given as goal
@@ -10,6 +12,7 @@ invariant-loop-fed g l =
     × (l.fed ≤ length l.piece)
     × ((goal : Formula) (before : List ℕ) → HasCome l.initial.names goal before l.initial.self → HasCome l.names goal (before ++ take l.fed l.piece) l.self)
     × HasTicks l.initial.self l.self l.initial.steps l.steps
+    × ((goal : Formula) (before : List ℕ) → HasCome l.initial.names goal before l.initial.self → AddsOnly (IsPartIn before l.piece) l.initial.names l.names)
 
 abbrev pub decreases-loop-fed : goal.decreases-loop-fed
 decreases-loop-fed g l = length l.piece - l.fed

@@ -1,4 +1,4 @@
-use Rattle.explicit_kernel.proofs.Sharing.{cut-ready, cut-chain, cut-same}
+use Rattle.explicit_kernel.proofs.Sharing.{cut-ready, cut-chain, cut-same, cut-dropped}
 use Rattle.explicit_kernel.proofs.shared.Shared.cut_back.Goals as goal
 
 pub returns-clause-ready : goal.returns-clause-ready
@@ -13,3 +13,6 @@ pub returns-clause-pending : goal.returns-clause-pending
 returns-clause-pending c =
     cut-same c.args.floor c.args.stored c.larger.result c.args.self.now.stored.items c.truncate.new.self.items c.args.self.now.cells c.keep.new.self c.args.self.now.sequents
     c.requires.below c.larger.ensures.first c.truncate.ensures.items c.keep.ensures
+
+pub returns-clause-dropped : goal.returns-clause-dropped
+returns-clause-dropped c = cut-dropped c.args.floor c.args.rest c.larger.result c.args.self.now.cells c.keep.new.self c.larger.ensures.one c.keep.ensures
