@@ -59,15 +59,17 @@ fn verify_through<S: Source, L: Ledger>(
     steps: &mut Steps<L>,
 ) -> Result<Verdict, VerifyRefusal>
     requires buffer { length buffer.old ≡ PIECE }
-    ensures judged { IsJudged names.new goal.now (S.left source.old) (S.left source.new) steps.old steps.new result }
-    ensures count { OnOk result (S.faults source.new ≡ S.faults source.old) }
-    ensures reason { IfErr result (HasReason (S.faults source.old) (S.faults source.new)) }
-    ensures never_falls { S.faults source.old ≤ S.faults source.new }
-    ensures content { S.content source.new ≡ S.content source.old }
-    ensures opened { S.opened source.new ≡ S.opened source.old }
-    ensures calls { S.calls source.new ≤ S.calls source.old + 67_108_864 + 1 }
+    ensures judged { IsJudged names.new goal.now (S.outside source.old).left
+        (S.outside source.new).left steps.old steps.new result }
+    ensures count { OnOk result ((S.outside source.new).faults ≡ (S.outside source.old).faults) }
+    ensures reason { IfErr result (HasReason (S.outside source.old).faults
+        (S.outside source.new).faults) }
+    ensures never_falls { (S.outside source.old).faults ≤ (S.outside source.new).faults }
+    ensures content { (S.outside source.new).content ≡ (S.outside source.old).content }
+    ensures opened { (S.outside source.new).opened ≡ (S.outside source.old).opened }
+    ensures calls { (S.outside source.new).calls ≤ (S.outside source.old).calls + 67_108_864 + 1 }
     ensures grows { Grows names.old names.new }
-    ensures only { AddsRead (S.left source.old) (S.left source.new) names.old names.new }
+    ensures only { AddsRead (S.outside source.old).left (S.outside source.new).left names.old names.new }
 {
     let mut check = match Check::start(alloc, goal) {
         Ok(check) => check,
@@ -109,16 +111,18 @@ pub fn verify<S: Source, L: Ledger>(
     requires logic { problem.now.logic ≡ Lkf }
     requires closed { IsClosed problem.now.goal }
     requires lkf { IsLkf problem.now.goal }
-    ensures judged { IsJudged names.new problem.now.goal (S.left source.old) (S.left source.new) steps.old steps.new result }
+    ensures judged { IsJudged names.new problem.now.goal (S.outside source.old).left
+        (S.outside source.new).left steps.old steps.new result }
     ensures right { IfOk result (IsRight problem.now.goal) }
-    ensures count { OnOk result (S.faults source.new ≡ S.faults source.old) }
-    ensures reason { IfErr result (HasReason (S.faults source.old) (S.faults source.new)) }
-    ensures never_falls { S.faults source.old ≤ S.faults source.new }
-    ensures content { S.content source.new ≡ S.content source.old }
-    ensures opened { S.opened source.new ≡ S.opened source.old }
-    ensures calls { S.calls source.new ≤ S.calls source.old + 67_108_864 + 1 }
+    ensures count { OnOk result ((S.outside source.new).faults ≡ (S.outside source.old).faults) }
+    ensures reason { IfErr result (HasReason (S.outside source.old).faults
+        (S.outside source.new).faults) }
+    ensures never_falls { (S.outside source.old).faults ≤ (S.outside source.new).faults }
+    ensures content { (S.outside source.new).content ≡ (S.outside source.old).content }
+    ensures opened { (S.outside source.new).opened ≡ (S.outside source.old).opened }
+    ensures calls { (S.outside source.new).calls ≤ (S.outside source.old).calls + 67_108_864 + 1 }
     ensures grows { Grows names.old names.new }
-    ensures only { AddsRead (S.left source.old) (S.left source.new) names.old names.new }
+    ensures only { AddsRead (S.outside source.old).left (S.outside source.new).left names.old names.new }
 {
     let mut buffer = match vec![in alloc; 0u8; PIECE] {
         Ok(buffer) => buffer,

@@ -7,6 +7,23 @@ pub data Content : Type 0 where
   missing : Content
   holds : (bytes : List ℕ) → Content
 
+-- What has come of a source or of files: the count of failures, what is left of the one that is
+-- open, the contents of files by name, the names of those that were opened so far, each where it is
+-- told, and a bound on the number of calls so far.
+pub record Outside : Type 0 where
+  pub faults : ℕ
+  pub left : Option (List ℕ)
+  pub content : List ℕ → Content
+  pub opened : Option (List (List ℕ))
+  pub calls : ℕ
+
+-- What has come of a sink: the count of failures, the bytes that it took so far, where they are
+-- told, and a bound on the number of calls so far.
+pub record Output : Type 0 where
+  pub faults : ℕ
+  pub taken : Option (List ℕ)
+  pub calls : ℕ
+
 -- the last value of a count, at which it stands still
 abbrev pub last_count : ℕ
 last_count = 2 ^ 64 - 1

@@ -115,13 +115,16 @@ impl MemSource {
 }
 
 impl Source for MemSource {
-    ghost use Rattle.std.specs.Prelude.{Some};
+    ghost use Rattle.std.specs.Prelude.{Some, None};
+    ghost use Rattle.fpc_base.specs.Outside.{untold};
 
-    ghost faults = { λ s. s.plan.faults };
-
-    ghost left = { λ s. Some s.left };
-
-    ghost calls = { λ s. s.plan.calls };
+    ghost outside = { λ s. record {
+        faults = s.plan.faults;
+        left = Some s.left;
+        content = λ name. untold;
+        opened = None;
+        calls = s.plan.calls
+    } };
 
     fn read(&mut self, buf: &mut [u8]) -> Result<usize, Failed>
         requires { 0 < length buf.old }
@@ -214,16 +217,16 @@ impl MemFiles {
 }
 
 impl Source for MemFiles {
-    ghost use Rattle.std.specs.Prelude.{Some};
+    ghost use Rattle.std.specs.Prelude.{Some, None};
     ghost use Rattle.fpc_base.specs.Memory.{content_in};
 
-    ghost faults = { λ s. s.plan.faults };
-
-    ghost left = { λ s. Some s.left };
-
-    ghost content = { λ s name. content_in s.files name };
-
-    ghost calls = { λ s. s.plan.calls };
+    ghost outside = { λ s. record {
+        faults = s.plan.faults;
+        left = Some s.left;
+        content = λ name. content_in s.files name;
+        opened = None;
+        calls = s.plan.calls
+    } };
 
     fn read(&mut self, buf: &mut [u8]) -> Result<usize, Failed>
         requires { 0 < length buf.old }
@@ -331,11 +334,11 @@ impl MemSink {
 impl Sink for MemSink {
     ghost use Rattle.std.specs.Prelude.{Some};
 
-    ghost faults = { λ s. s.plan.faults };
-
-    ghost taken = { λ s. Some s.taken };
-
-    ghost calls = { λ s. s.plan.calls };
+    ghost output = { λ s. record {
+        faults = s.plan.faults;
+        taken = Some s.taken;
+        calls = s.plan.calls
+    } };
 
     fn write(&mut self, bytes: &[u8]) -> Result<usize, Failed>
         requires { 0 < length bytes.now }

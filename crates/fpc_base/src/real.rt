@@ -49,7 +49,16 @@ impl<'a, R: rt::Files> StdFiles<'a, R> {
 }
 
 impl<'a, R: rt::Files> Source for StdFiles<'a, R> {
-    ghost faults = { λ s. s.faults };
+    ghost use Rattle.std.specs.Prelude.{None};
+    ghost use Rattle.fpc_base.specs.Outside.{untold};
+
+    ghost outside = { λ s. record {
+        faults = s.faults;
+        left = None;
+        content = λ name. untold;
+        opened = None;
+        calls = 0
+    } };
 
     fn read(&mut self, buf: &mut [u8]) -> Result<usize, Failed>
         requires { 0 < length buf.old }
@@ -111,7 +120,16 @@ impl<R: Read> StdSource<R> {
 }
 
 impl<R: Read> Source for StdSource<R> {
-    ghost faults = { λ s. s.faults };
+    ghost use Rattle.std.specs.Prelude.{None};
+    ghost use Rattle.fpc_base.specs.Outside.{untold};
+
+    ghost outside = { λ s. record {
+        faults = s.faults;
+        left = None;
+        content = λ name. untold;
+        opened = None;
+        calls = 0
+    } };
 
     fn read(&mut self, buf: &mut [u8]) -> Result<usize, Failed>
         requires { 0 < length buf.old }
@@ -152,7 +170,9 @@ impl<W: Write> StdSink<W> {
 }
 
 impl<W: Write> Sink for StdSink<W> {
-    ghost faults = { λ s. s.faults };
+    ghost use Rattle.std.specs.Prelude.{None};
+
+    ghost output = { λ s. record { faults = s.faults; taken = None; calls = 0 } };
 
     fn write(&mut self, bytes: &[u8]) -> Result<usize, Failed>
         requires { 0 < length bytes.now }

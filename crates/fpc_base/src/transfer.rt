@@ -14,16 +14,17 @@ const PIECE: usize = 65_536;
 fn read_piece<S: Source>(src: &mut S, buffer: &mut [u8], most: usize) -> Result<usize, Failed>
     requires some { 0 < most }
     requires room { most ≤ length buffer.old }
-    ensures never_falls { S.faults src.old ≤ S.faults src.new }
-    ensures ok_count { OnOk result (S.faults src.new ≡ S.faults src.old) }
-    ensures failed { OnErr result (Rose (S.faults src.old) (S.faults src.new)) }
+    ensures never_falls { (S.outside src.old).faults ≤ (S.outside src.new).faults }
+    ensures ok_count { OnOk result ((S.outside src.new).faults ≡ (S.outside src.old).faults) }
+    ensures failed { OnErr result (Rose (S.outside src.old).faults (S.outside src.new).faults) }
     ensures within { IfOk result (λ n. n ≤ most) }
-    ensures taken { IfOk result (λ n. TakesFront (S.left src.old) (take n buffer.new) (S.left src.new)) }
-    ensures end { IfOk result (λ n. n ≡ 0 → IsAtEnd (S.left src.old)) }
-    ensures none_taken { OnErr result (S.left src.new ≡ S.left src.old) }
-    ensures content { S.content src.new ≡ S.content src.old }
-    ensures opened { S.opened src.new ≡ S.opened src.old }
-    ensures calls { S.calls src.new ≤ S.calls src.old + 1 }
+    ensures taken { IfOk result (λ n. TakesFront (S.outside src.old).left (take n buffer.new)
+        (S.outside src.new).left) }
+    ensures end { IfOk result (λ n. n ≡ 0 → IsAtEnd (S.outside src.old).left) }
+    ensures none_taken { OnErr result ((S.outside src.new).left ≡ (S.outside src.old).left) }
+    ensures content { (S.outside src.new).content ≡ (S.outside src.old).content }
+    ensures opened { (S.outside src.new).opened ≡ (S.outside src.old).opened }
+    ensures calls { (S.outside src.new).calls ≤ (S.outside src.old).calls + 1 }
 {
     let (front, _) = buffer.split_at_mut(most);
     src.read(front)
@@ -37,21 +38,27 @@ fn read_through<S: Source>(
     limit: usize,
 ) -> Result<Vec<u8>, ReadRefusal>
     requires { length buffer.old ≡ PIECE }
-    ensures never_falls { S.faults src.old ≤ S.faults src.new }
-    ensures ok_count { OnOk result (S.faults src.new ≡ S.faults src.old) }
-    ensures all { IfOk result (λ v. TakesFront (S.left src.old) v.items (S.left src.new)) }
-    ensures end { OnOk result (IsAtEnd (S.left src.new)) }
+    ensures never_falls { (S.outside src.old).faults ≤ (S.outside src.new).faults }
+    ensures ok_count { OnOk result ((S.outside src.new).faults ≡ (S.outside src.old).faults) }
+    ensures all { IfOk result (λ v. TakesFront (S.outside src.old).left v.items
+        (S.outside src.new).left) }
+    ensures end { OnOk result (IsAtEnd (S.outside src.new).left) }
     ensures size { IfOk result (λ v. vec_len v ≤ limit) }
 
-    ensures too_large { IsErrOf result ReadRefusal.TooLarge → HasMoreThan limit (S.left src.old) }
-    ensures too_large_count { IsErrOf result ReadRefusal.TooLarge → S.faults src.new ≡ S.faults src.old }
-    ensures failed { IsErrOf result ReadRefusal.Failed → Rose (S.faults src.old) (S.faults src.new) }
-    ensures memory_count { IsErrOf result ReadRefusal.OutOfMemory → S.faults src.new ≡ S.faults src.old }
-    ensures taken { OnErr result (TakesAtMost (limit + 1) (S.left src.old) (S.left src.new)) }
+    ensures too_large { IsErrOf result ReadRefusal.TooLarge → HasMoreThan limit
+        (S.outside src.old).left }
+    ensures too_large_count { IsErrOf result ReadRefusal.TooLarge
+        → (S.outside src.new).faults ≡ (S.outside src.old).faults }
+    ensures failed { IsErrOf result ReadRefusal.Failed → Rose (S.outside src.old).faults
+        (S.outside src.new).faults }
+    ensures memory_count { IsErrOf result ReadRefusal.OutOfMemory
+        → (S.outside src.new).faults ≡ (S.outside src.old).faults }
+    ensures taken { OnErr result (TakesAtMost (limit + 1) (S.outside src.old).left
+        (S.outside src.new).left) }
 
-    ensures content { S.content src.new ≡ S.content src.old }
-    ensures opened { S.opened src.new ≡ S.opened src.old }
-    ensures calls { S.calls src.new ≤ S.calls src.old + limit + 1 }
+    ensures content { (S.outside src.new).content ≡ (S.outside src.old).content }
+    ensures opened { (S.outside src.new).opened ≡ (S.outside src.old).opened }
+    ensures calls { (S.outside src.new).calls ≤ (S.outside src.old).calls + limit + 1 }
 {
     let mut bytes = Vec::new(alloc);
     while bytes.len() <= limit {
@@ -72,21 +79,27 @@ fn read_through<S: Source>(
 
 /// Reads the source to its end, if it holds at most `limit` bytes. Memory is a small multiple of the bytes read.
 pub fn read_all<S: Source>(alloc: Global, src: &mut S, limit: usize) -> Result<Vec<u8>, ReadRefusal>
-    ensures never_falls { S.faults src.old ≤ S.faults src.new }
-    ensures ok_count { OnOk result (S.faults src.new ≡ S.faults src.old) }
-    ensures all { IfOk result (λ v. TakesFront (S.left src.old) v.items (S.left src.new)) }
-    ensures end { OnOk result (IsAtEnd (S.left src.new)) }
+    ensures never_falls { (S.outside src.old).faults ≤ (S.outside src.new).faults }
+    ensures ok_count { OnOk result ((S.outside src.new).faults ≡ (S.outside src.old).faults) }
+    ensures all { IfOk result (λ v. TakesFront (S.outside src.old).left v.items
+        (S.outside src.new).left) }
+    ensures end { OnOk result (IsAtEnd (S.outside src.new).left) }
     ensures size { IfOk result (λ v. vec_len v ≤ limit) }
 
-    ensures too_large { IsErrOf result ReadRefusal.TooLarge → HasMoreThan limit (S.left src.old) }
-    ensures too_large_count { IsErrOf result ReadRefusal.TooLarge → S.faults src.new ≡ S.faults src.old }
-    ensures failed { IsErrOf result ReadRefusal.Failed → Rose (S.faults src.old) (S.faults src.new) }
-    ensures memory_count { IsErrOf result ReadRefusal.OutOfMemory → S.faults src.new ≡ S.faults src.old }
-    ensures taken { OnErr result (TakesAtMost (limit + 1) (S.left src.old) (S.left src.new)) }
+    ensures too_large { IsErrOf result ReadRefusal.TooLarge → HasMoreThan limit
+        (S.outside src.old).left }
+    ensures too_large_count { IsErrOf result ReadRefusal.TooLarge
+        → (S.outside src.new).faults ≡ (S.outside src.old).faults }
+    ensures failed { IsErrOf result ReadRefusal.Failed → Rose (S.outside src.old).faults
+        (S.outside src.new).faults }
+    ensures memory_count { IsErrOf result ReadRefusal.OutOfMemory
+        → (S.outside src.new).faults ≡ (S.outside src.old).faults }
+    ensures taken { OnErr result (TakesAtMost (limit + 1) (S.outside src.old).left
+        (S.outside src.new).left) }
 
-    ensures content { S.content src.new ≡ S.content src.old }
-    ensures opened { S.opened src.new ≡ S.opened src.old }
-    ensures calls { S.calls src.new ≤ S.calls src.old + limit + 1 }
+    ensures content { (S.outside src.new).content ≡ (S.outside src.old).content }
+    ensures opened { (S.outside src.new).opened ≡ (S.outside src.old).opened }
+    ensures calls { (S.outside src.new).calls ≤ (S.outside src.old).calls + limit + 1 }
 {
     match vec![in alloc; 0u8; PIECE] {
         Ok(mut buffer) => read_through(alloc, src, buffer.as_mut_slice(), limit),
@@ -96,12 +109,12 @@ pub fn read_all<S: Source>(alloc: Global, src: &mut S, limit: usize) -> Result<V
 
 /// Writes all of the bytes. It takes no memory.
 pub fn put<S: Sink>(sink: &mut S, bytes: &[u8]) -> Result<(), Failed>
-    ensures never_falls { S.faults sink.old ≤ S.faults sink.new }
-    ensures ok_count { OnOk result (S.faults sink.new ≡ S.faults sink.old) }
-    ensures all { OnOk result (Adds (S.taken sink.old) bytes.now (S.taken sink.new)) }
-    ensures failed { OnErr result (Rose (S.faults sink.old) (S.faults sink.new)) }
-    ensures prefix { OnErr result (AddsPrefix (S.taken sink.old) bytes.now (S.taken sink.new)) }
-    ensures calls { S.calls sink.new ≤ S.calls sink.old + length bytes.now + 1 }
+    ensures never_falls { (S.output sink.old).faults ≤ (S.output sink.new).faults }
+    ensures ok_count { OnOk result ((S.output sink.new).faults ≡ (S.output sink.old).faults) }
+    ensures all { OnOk result (Adds (S.output sink.old).taken bytes.now (S.output sink.new).taken) }
+    ensures failed { OnErr result (Rose (S.output sink.old).faults (S.output sink.new).faults) }
+    ensures prefix { OnErr result (AddsPrefix (S.output sink.old).taken bytes.now (S.output sink.new).taken) }
+    ensures calls { (S.output sink.new).calls ≤ (S.output sink.old).calls + length bytes.now + 1 }
 {
     let mut done = 0;
     while done < bytes.len() {

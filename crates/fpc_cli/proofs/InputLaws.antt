@@ -1,12 +1,12 @@
 -- The inputs have one answer, which is the one that the contents of the files call for.
 use Rattle.std.proofs.Common.{◌≡◌, ◌≢◌, ◌⊎◌, ℕ, List, [], ◌∷◌, ◌++◌, refl, sym, ap, ◌∙◌, subst, arith, inl, inr}
-use Rattle.fpc_base.specs.Outside.{Content, missing, holds, Rose, IsAtStartOf}
+use Rattle.fpc_base.specs.Outside.{Outside, Content, missing, holds, Rose, IsAtStartOf}
 use Rattle.fpc_base.specs.declared.refusal.Refusal.{Refusal}
 use Rattle.fpc_cli.specs.declared.answer.Answer.{Answer}
 use Rattle.fpc_cli.specs.declared.answer.Answer.TheVariants.{Refused, ReadFault, OutOfMemory}
 use Rattle.fpc_cli.specs.declared.answer.Role.{Role}
 use Rattle.fpc_cli.specs.Held.{IsKnown}
-use Rattle.fpc_cli.specs.Inputs.{Outside, Grammar, Input, source, at_hand, stream, IsAccepted, IsRefused, IsUnread, IsRefusal, Ending, Comes, AreKnown, IsDueTo, IsDue, Task}
+use Rattle.fpc_cli.specs.Inputs.{Grammar, Input, source, at_hand, stream, IsAccepted, IsRefused, IsUnread, IsRefusal, Ending, Comes, AreKnown, IsDueTo, IsDue, Task}
 use Rattle.fpc_cli.specs.Laws.{IsFound}
 use Rattle.fpc_cli.proofs.Contents.{held-so, large-so, never-missing, one-content}
 

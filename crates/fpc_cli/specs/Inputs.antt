@@ -1,7 +1,7 @@
 -- The inputs of a command, and how they are read: one after the other, and the first that isn't
 -- good decides the answer.
 use Rattle.std.specs.Prelude.{◌≡◌, ◌≢◌, ◌⊎◌, ℕ, ◌<◌, ◌≤◌, List, [], ◌∷◌, ◌++◌, length, Option}
-use Rattle.fpc_base.specs.Outside.{Content, missing, holds, Rose, IsAtEnd, IsAtStartOf, Opens}
+use Rattle.fpc_base.specs.Outside.{Outside, Content, missing, holds, Rose, IsAtEnd, IsAtStartOf, Opens}
 use Rattle.fpc_base.specs.declared.refusal.Code.TheVariants.{TooLarge}
 use Rattle.fpc_base.specs.declared.refusal.ParseRefusal.{ParseRefusal}
 use Rattle.fpc_base.specs.declared.refusal.ParseRefusal.TheVariants as parse
@@ -10,17 +10,6 @@ use Rattle.fpc_cli.specs.declared.answer.Answer.{Answer}
 use Rattle.fpc_cli.specs.declared.answer.Answer.TheVariants.{Refused, ReadFault, OutOfMemory}
 use Rattle.fpc_cli.specs.declared.answer.Role.{Role}
 use Rattle.fpc_cli.specs.Held.{MayHold, MayBeTooLarge, IsTakenOf, IsKnown}
-
--- What has come of the files: the names of those that were opened so far and what is left of the
--- one that is open, where these are told, and the count of faults.
-pub record Outside : Type 0 where
-  pub opened : Option (List (List ℕ))
-  pub left : Option (List ℕ)
-  pub faults : ℕ
-
--- so, of these three
-abbrev pub outside : Option (List (List ℕ)) → Option (List ℕ) → ℕ → Outside
-outside opened left faults = record { opened = opened; left = left; faults = faults }
 
 -- how the bytes of an input are read: which are whole, and how others are refused
 pub record Grammar : Type 1 where

@@ -1,10 +1,10 @@
 -- The words and the contents of the files have one answer, which is the one that they call for.
 use Rattle.std.specs.Prelude.{◌≡◌, ℕ, List, []}
-use Rattle.fpc_base.specs.Outside.{Content, Rose}
+use Rattle.fpc_base.specs.Outside.{Outside, Content, Rose}
 use Rattle.fpc_cli.specs.declared.answer.Answer.{Answer}
 use Rattle.fpc_cli.specs.declared.answer.Answer.TheVariants.{OutOfMemory}
 use Rattle.fpc_cli.specs.Command.{Asked}
-use Rattle.fpc_cli.specs.Inputs.{Outside, AreKnown, IsDue}
+use Rattle.fpc_cli.specs.Inputs.{AreKnown, IsDue}
 use Rattle.fpc_cli.specs.Run.{task_of, IsCaused}
 
 -- memory sufficed for the answer

@@ -1,11 +1,11 @@
 -- Why the program answers as it does, and what it writes.
 use Rattle.std.specs.Prelude.{◌≡◌, ◌⊎◌, ℕ, List, [], Option}
-use Rattle.fpc_base.specs.Outside.{Content, Rose, Adds, AddsPrefix}
+use Rattle.fpc_base.specs.Outside.{Outside, Content, Rose, Adds, AddsPrefix}
 use Rattle.fpc_cli.specs.declared.answer.Answer.{Answer}
 use Rattle.fpc_cli.specs.declared.answer.Answer.TheVariants.{OutOfMemory}
 use Rattle.fpc_cli.specs.Answer.{answer_text, status_of}
 use Rattle.fpc_cli.specs.Command.{Asked, verify, format, solve, usage}
-use Rattle.fpc_cli.specs.Inputs.{Outside, Task, Comes}
+use Rattle.fpc_cli.specs.Inputs.{Task, Comes}
 use Rattle.fpc_cli.specs.commands.Format.{format_task}
 use Rattle.fpc_cli.specs.commands.Solve.{solve_task}
 use Rattle.fpc_cli.specs.commands.Usage.{usage_task}

@@ -1,7 +1,6 @@
 //! All that the program does, over any files and any sink.
 ghost use Rattle.std.specs.Prelude.{◌≡◌, ◌≤◌};
 ghost use Rattle.fpc_cli.specs.Command.{asked_by};
-ghost use Rattle.fpc_cli.specs.Inputs.{outside};
 ghost use Rattle.fpc_cli.specs.Run.{IsCaused, IsAnswered, IsPut};
 
 use crate::answer::{Answer, WANT_OF_MEMORY, status, text_of};
@@ -17,11 +16,10 @@ use std::alloc::Global;
 
 /// The answer to the words.
 fn answer<F: Files>(alloc: Global, words: &Words, files: &mut F) -> Answer
-    ensures caused { IsCaused (asked_by words.now) (F.content files.old)
-        (outside (F.opened files.old) (F.left files.old) (F.faults files.old))
-        (outside (F.opened files.new) (F.left files.new) (F.faults files.new)) result }
-    ensures never_falls { F.faults files.old ≤ F.faults files.new }
-    ensures content { F.content files.new ≡ F.content files.old }
+    ensures caused { IsCaused (asked_by words.now) (F.outside files.old).content
+        (F.outside files.old) (F.outside files.new) result }
+    ensures never_falls { (F.outside files.old).faults ≤ (F.outside files.new).faults }
+    ensures content { (F.outside files.new).content ≡ (F.outside files.old).content }
 {
     match command_of(words) {
         Command::Verify { problem, explicit } => verified(alloc, problem, explicit, files),
@@ -37,8 +35,8 @@ fn answer<F: Files>(alloc: Global, words: &Words, files: &mut F) -> Answer
 
 /// Writes a text that was made, and gives the status.
 fn write<S: Sink>(status: Status, text: &[u8], out: &mut S) -> Status
-    ensures { IsPut status.code text.now result.code (S.faults out.old) (S.faults out.new)
-        (S.taken out.old) (S.taken out.new) }
+    ensures { IsPut status.code text.now result.code (S.output out.old).faults (S.output out.new).faults
+        (S.output out.old).taken (S.output out.new).taken }
 {
     match put(out, text) {
         Ok(()) => status,
@@ -51,12 +49,11 @@ fn write<S: Sink>(status: Status, text: &[u8], out: &mut S) -> Status
 /// file or atom, 4 for words that are no command, 5 for a read fault, 6 for a write fault, 7 for an
 /// atom whose text is too long, 8 for want of memory.
 pub fn run<F: Files, S: Sink>(alloc: Global, words: &Words, files: &mut F, out: &mut S) -> Status
-    ensures answered { IsAnswered (asked_by words.now) (F.content files.old)
-        (outside (F.opened files.old) (F.left files.old) (F.faults files.old))
-        (outside (F.opened files.new) (F.left files.new) (F.faults files.new)) result.code
-        (S.faults out.old) (S.faults out.new) (S.taken out.old) (S.taken out.new) }
-    ensures never_falls { F.faults files.old ≤ F.faults files.new }
-    ensures content { F.content files.new ≡ F.content files.old }
+    ensures answered { IsAnswered (asked_by words.now) (F.outside files.old).content
+        (F.outside files.old) (F.outside files.new) result.code
+        (S.output out.old).faults (S.output out.new).faults (S.output out.old).taken (S.output out.new).taken }
+    ensures never_falls { (F.outside files.old).faults ≤ (F.outside files.new).faults }
+    ensures content { (F.outside files.new).content ≡ (F.outside files.old).content }
 {
     let answer = answer(alloc, words, files);
     let code = status(&answer);

@@ -1,6 +1,6 @@
 //! Source files that are read whole.
 ghost use Rattle.std.specs.Prelude.{◌≡◌, ◌≤◌, IfOk, IfErr};
-ghost use Rattle.fpc_cli.specs.Inputs.{IsReadWhole, IsUnread, outside};
+ghost use Rattle.fpc_cli.specs.Inputs.{IsReadWhole, IsUnread};
 
 use crate::answer::{Answer, Role};
 use fpc_base::outside::Files;
@@ -19,14 +19,12 @@ pub fn source_in<F: Files>(
     files: &mut F,
 ) -> Result<Vec<u8>, Answer>
     ensures read { IfOk result (λ v.
-        IsReadWhole (F.content files.old name.now) name.now
-        (outside (F.opened files.old) (F.left files.old) (F.faults files.old))
-        (outside (F.opened files.new) (F.left files.new) (F.faults files.new)) v.items) }
-    ensures unread { IfErr result (IsUnread role (F.content files.old name.now) name.now
-        (outside (F.opened files.old) (F.left files.old) (F.faults files.old))
-        (outside (F.opened files.new) (F.left files.new) (F.faults files.new))) }
-    ensures never_falls { F.faults files.old ≤ F.faults files.new }
-    ensures content { F.content files.new ≡ F.content files.old }
+        IsReadWhole ((F.outside files.old).content name.now) name.now
+        (F.outside files.old) (F.outside files.new) v.items) }
+    ensures unread { IfErr result (IsUnread role ((F.outside files.old).content name.now) name.now
+        (F.outside files.old) (F.outside files.new)) }
+    ensures never_falls { (F.outside files.old).faults ≤ (F.outside files.new).faults }
+    ensures content { (F.outside files.new).content ≡ (F.outside files.old).content }
 {
     if files.open(name).is_err() {
         return Err(Answer::ReadFault);

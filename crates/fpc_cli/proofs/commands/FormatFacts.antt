@@ -1,13 +1,13 @@
 -- The answer to a file that was read whole to be printed.
 use Rattle.std.proofs.Common.{ℕ, List, refl, inl, inr}
-use Rattle.fpc_base.specs.Outside.{Content}
+use Rattle.fpc_base.specs.Outside.{Outside, Content}
 use Rattle.fpc_base.specs.declared.refusal.Refusal.{Refusal}
 use Rattle.fpc_cli.specs.declared.answer.Answer.TheVariants.{Formatted, Refused, OutOfMemory}
 use Rattle.fpc_cli.specs.declared.command.Form.{Form}
 use Rattle.fpc_cli.specs.declared.command.Form.TheVariants.{Problem, Definition, Certificate}
 use Rattle.fpc_cli.specs.Command.{format, role_of}
 use Rattle.fpc_cli.specs.Grammars.{grammar_of}
-use Rattle.fpc_cli.specs.Inputs.{Outside, IsReadWhole}
+use Rattle.fpc_cli.specs.Inputs.{IsReadWhole}
 use Rattle.fpc_cli.specs.Run.{IsCaused}
 use Rattle.fpc_cli.specs.commands.Format.{IsPrintedForm}
 

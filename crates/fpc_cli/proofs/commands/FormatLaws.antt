@@ -1,7 +1,7 @@
 -- The answer to `format` is one, and the one that the file calls for.
 use Rattle.std.proofs.Common.{◌≡◌, ℕ, List, [], ◌∷◌, length, refl, sym, ap, ◌∙◌, subst, None}
 use Rattle.fpc_base.specs.Lexeme.{items_of}
-use Rattle.fpc_base.specs.Outside.{Content}
+use Rattle.fpc_base.specs.Outside.{Outside, Content}
 use Rattle.fpc_terms.specs.Name.{index_in}
 use Rattle.polarised_formulas.specs.declared.logic.Logic.{Logic}
 use Rattle.polarised_formulas.specs.Printing.{AllNamesBelow}
@@ -17,7 +17,6 @@ use Rattle.fpc_cli.specs.declared.answer.Answer.{Answer}
 use Rattle.fpc_cli.specs.declared.answer.Answer.TheVariants.{Formatted, OutOfMemory}
 use Rattle.fpc_cli.specs.declared.command.Form.{Form}
 use Rattle.fpc_cli.specs.declared.command.Form.TheVariants.{Problem, Definition, Certificate}
-use Rattle.fpc_cli.specs.Inputs.{Outside}
 use Rattle.fpc_cli.specs.Laws.{IsFound}
 use Rattle.fpc_cli.specs.commands.Format.{IsProblemPrinted, IsDefinitionPrinted, IsCertificatePrinted, IsPrintedForm, IsFormatted, IsItsPrintedForm, EndsFormat, FormatIsDue, format_task}
 use Rattle.fpc_cli.proofs.GrammarLaws.{form-lawful}

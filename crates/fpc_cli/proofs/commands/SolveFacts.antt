@@ -4,7 +4,7 @@ use Rattle.std.specs.Prelude.{slice_get, codes}
 use Rattle.std.proofs.lemmas.Option.{slice_get_within, slice_get-get_or}
 use Rattle.fpc_base.specs.declared.outside.OutOfMemory.{OutOfMemory}
 use Rattle.fpc_base.specs.Lexeme.{Item, items_of}
-use Rattle.fpc_base.specs.Outside.{Content}
+use Rattle.fpc_base.specs.Outside.{Outside, Content}
 use Rattle.fpc_terms.specs.Name.{AreDifferent, Grows}
 use Rattle.fpc_terms.specs.Printing.{HasNamesBelow, HaveNamesBelow}
 use Rattle.fpc_terms.specs.Term.{Term, Args, eigen, bound, variable, app, no_args, arg}
@@ -24,7 +24,7 @@ use Rattle.search_model.specs.declared.solve.Solved.{Solved}
 use Rattle.search_model.specs.declared.solve.Solved.TheVariants.{Accepted, Rejected, Spent, TooLong}
 use Rattle.fpc_cli.specs.declared.answer.Answer.{Answer}
 use Rattle.fpc_cli.specs.Command.{solve}
-use Rattle.fpc_cli.specs.Inputs.{Outside, IsReadWhole}
+use Rattle.fpc_cli.specs.Inputs.{IsReadWhole}
 use Rattle.fpc_cli.specs.Run.{IsCaused}
 use Rattle.fpc_cli.specs.commands.Solve.{IsRead, IsProgramOf, IsEndNamed, IsSearch, answer_of, IsAtomAnswer, IsAnswerTo}
 use Rattle.search_model.proofs.NamesKept.{accepted-named}

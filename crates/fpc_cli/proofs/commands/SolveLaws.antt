@@ -1,9 +1,8 @@
 -- The answer to `solve` is one, and the one that the definition and the word call for.
 use Rattle.std.proofs.Common.{◌≡◌, ℕ, List, [], ◌∷◌, subst, inl, inr}
-use Rattle.fpc_base.specs.Outside.{Content}
+use Rattle.fpc_base.specs.Outside.{Outside, Content}
 use Rattle.search_model.specs.Renaming.{AnsweredOnce}
 use Rattle.fpc_cli.specs.declared.answer.Answer.{Answer}
-use Rattle.fpc_cli.specs.Inputs.{Outside}
 use Rattle.fpc_cli.specs.Laws.{IsFound}
 use Rattle.fpc_cli.specs.commands.Solve.{SolveEnds, EndsSolve, IsItsSearch, SolveIsDue, solve_task}
 use Rattle.fpc_cli.proofs.GrammarLaws.{definition-lawful, atom-lawful}

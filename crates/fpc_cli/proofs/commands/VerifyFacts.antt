@@ -3,7 +3,7 @@ use Rattle.std.specs.Prelude.{◌≡◌, ℕ, false, List, [], ◌∷◌, ◌++�
 use Rattle.std.proofs.Common.{refl, subst, sym, ap, ◌∙◌, append-nil, inl, inr}
 use Rattle.fpc_base.specs.Lexeme.{items_of}
 use Rattle.fpc_base.specs.Reading.{ReadsAll}
-use Rattle.fpc_base.specs.Outside.{Content, untold, missing, holds, IsAtStartOf, IsAtEnd, TakesFront}
+use Rattle.fpc_base.specs.Outside.{Outside, Content, untold, missing, holds, IsAtStartOf, IsAtEnd, TakesFront}
 use Rattle.fpc_terms.specs.Name.{Agrees, AreDifferent, Grows}
 use Rattle.polarised_formulas.specs.declared.logic.Logic.TheVariants.{Lkf}
 use Rattle.polarised_formulas.specs.Formula.{Formula, IsClosed, IsLkf}
@@ -24,7 +24,7 @@ use Rattle.fpc_cli.specs.declared.answer.Role.TheVariants.{Explicit}
 use Rattle.fpc_cli.specs.Grammars.{IsProblemOf, lkf_problem}
 use Rattle.fpc_cli.specs.Held.{MayHold, left_of}
 use Rattle.fpc_cli.specs.Command.{verify}
-use Rattle.fpc_cli.specs.Inputs.{Outside, stream, IsOpened, IsReadWhole, Comes}
+use Rattle.fpc_cli.specs.Inputs.{stream, IsOpened, IsReadWhole, Comes}
 use Rattle.fpc_cli.specs.Run.{IsCaused}
 use Rattle.fpc_cli.specs.commands.Verify.{IsProved, IsVerdict, IsCounted, VerifyEnds, EndsVerify, IsAnswerOf}
 

@@ -2,7 +2,7 @@
 use Rattle.std.proofs.Common.{◌∷◌, ◌≡◌, not, ℕ, ◌≤◌, List, [], ◌++◌, length, sym, ap, ◌∙◌, subst, arith, true}
 use Rattle.std.proofs.lemmas.Bool.{and_parts}
 use Rattle.fpc_base.specs.Lexeme.{items_of}
-use Rattle.fpc_base.specs.Outside.{Content, Rose}
+use Rattle.fpc_base.specs.Outside.{Outside, Content, Rose}
 use Rattle.fpc_base.specs.Tokens.{is_word, is_one_of, keywords, HasForm}
 use Rattle.fpc_base.specs.declared.tokens.TokenKind.TheVariants.{Name}
 use Rattle.fpc_terms.specs.Name.{Agrees}
@@ -25,7 +25,6 @@ use Rattle.fpc_cli.specs.declared.answer.Answer.TheVariants.{Accepted, Rejected,
 use Rattle.fpc_cli.specs.declared.answer.Role.TheVariants.{Explicit}
 use Rattle.fpc_cli.specs.Grammars.{IsProblemOf}
 use Rattle.fpc_cli.specs.Held.{IsKnown, left_of}
-use Rattle.fpc_cli.specs.Inputs.{Outside}
 use Rattle.fpc_cli.specs.Laws.{IsFound}
 use Rattle.fpc_cli.specs.commands.Verify.{IsVerdict, IsCounted, VerifyEnds, EndsVerify, answer_due, VerifyIsDue, verify_task}
 use Rattle.fpc_cli.proofs.Contents.{held-so, one-content}

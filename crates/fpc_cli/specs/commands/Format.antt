@@ -12,13 +12,14 @@ use Rattle.clause_language.specs.declared.definition.Definition as definition
 use Rattle.clause_language.specs.Naming.{IsDefinitionNamedBelow, IsCertificateNamedBelow}
 use Rattle.clause_language.specs.ReadFile.{DefinitionIsRead, CertificateIsRead}
 use Rattle.clause_language.specs.Text.{definition_text, certificate_text}
+use Rattle.fpc_base.specs.Outside.{Outside}
 use Rattle.fpc_cli.specs.declared.answer.Answer.{Answer}
 use Rattle.fpc_cli.specs.declared.answer.Answer.TheVariants.{Formatted, OutOfMemory}
 use Rattle.fpc_cli.specs.declared.command.Form.{Form}
 use Rattle.fpc_cli.specs.declared.command.Form.TheVariants.{Problem, Definition, Certificate}
 use Rattle.fpc_cli.specs.Command.{role_of}
 use Rattle.fpc_cli.specs.Grammars.{grammar_of}
-use Rattle.fpc_cli.specs.Inputs.{source, Outside, Task}
+use Rattle.fpc_cli.specs.Inputs.{source, Task}
 
 -- the bytes are a problem of either logic, by the numbers of names in a table, and this is its
 -- printed form

@@ -14,11 +14,12 @@ use Rattle.clause_language.specs.ReadFile.{DefinitionIsRead}
 use Rattle.search_model.specs.Solve.{atom_text, IsSolved, IsWithin, IsRight}
 use Rattle.search_model.specs.declared.solve.Solved.{Solved}
 use Rattle.search_model.specs.declared.solve.Solved.TheVariants as solved
+use Rattle.fpc_base.specs.Outside.{Outside}
 use Rattle.fpc_cli.specs.declared.answer.Answer.{Answer}
 use Rattle.fpc_cli.specs.declared.answer.Answer.TheVariants.{Holds, NotProved, BudgetSpent, TooLong, OutOfMemory}
 use Rattle.fpc_cli.specs.declared.answer.Role.TheVariants.{Definition, Atom}
 use Rattle.fpc_cli.specs.Grammars as grammar
-use Rattle.fpc_cli.specs.Inputs.{source, at_hand, Outside, Task, IsRefusal}
+use Rattle.fpc_cli.specs.Inputs.{source, at_hand, Task, IsRefusal}
 
 -- some items are those of the definition, by the numbers of names in a table
 abbrev pub IsRead : List (List ℕ) → definition.Definition → Type 0

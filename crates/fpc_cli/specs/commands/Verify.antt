@@ -1,7 +1,7 @@
 -- `verify`: the verdict on an explicit certificate for a problem of LKF.
 use Rattle.std.specs.Prelude.{◌≡◌, ℕ, ◌+◌, ◌≤◌, List, [], ◌∷◌, ◌++◌, length, Result, Ok, Err}
 use Rattle.fpc_base.specs.Lexeme.{items_of}
-use Rattle.fpc_base.specs.Outside.{Content, holds, Rose}
+use Rattle.fpc_base.specs.Outside.{Outside, Content, holds, Rose}
 use Rattle.fpc_terms.specs.Name.{Agrees, AreDifferent}
 use Rattle.polarised_formulas.specs.declared.logic.Logic.TheVariants.{Lkf}
 use Rattle.polarised_formulas.specs.Formula.{Formula, IsClosed, IsLkf}
@@ -23,7 +23,7 @@ use Rattle.fpc_cli.specs.declared.answer.Answer.TheVariants.{Accepted, Rejected,
 use Rattle.fpc_cli.specs.declared.answer.Role.TheVariants.{Problem, Explicit}
 use Rattle.fpc_cli.specs.Grammars.{lkf_problem, IsProblemOf}
 use Rattle.fpc_cli.specs.Held.{MayHold, left_of}
-use Rattle.fpc_cli.specs.Inputs.{source, stream, Outside, Task}
+use Rattle.fpc_cli.specs.Inputs.{source, stream, Task}
 
 -- the goal has a spelling of so many steps, and is derivable, where the certificate is accepted
 abbrev pub IsProved : Formula → Answer → Type 0

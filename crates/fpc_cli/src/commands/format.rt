@@ -2,7 +2,7 @@
 ghost use Rattle.std.specs.Prelude.{◌≡◌, ◌≤◌, IfOk, IfErr, length};
 ghost use Rattle.fpc_cli.specs.Command.{format as asked_to_format};
 ghost use Rattle.fpc_cli.specs.Grammars.{grammar_of, problem, definition, certificate};
-ghost use Rattle.fpc_cli.specs.Inputs.{outside, IsParseRefusal};
+ghost use Rattle.fpc_cli.specs.Inputs.{IsParseRefusal};
 ghost use Rattle.fpc_cli.specs.Run.{IsCaused};
 ghost use Rattle.fpc_cli.specs.commands.Format.{IsProblemPrinted, IsDefinitionPrinted, IsCertificatePrinted, IsPrintedForm};
 
@@ -94,11 +94,10 @@ fn printed(alloc: Global, form: Form, bytes: &[u8]) -> Result<Vec<u8>, ParseRefu
 
 /// The answer to `format`.
 pub fn formatted<F: Files>(alloc: Global, form: Form, file: &str, files: &mut F) -> Answer
-    ensures caused { IsCaused (asked_to_format form file.now) (F.content files.old)
-        (outside (F.opened files.old) (F.left files.old) (F.faults files.old))
-        (outside (F.opened files.new) (F.left files.new) (F.faults files.new)) result }
-    ensures never_falls { F.faults files.old ≤ F.faults files.new }
-    ensures content { F.content files.new ≡ F.content files.old }
+    ensures caused { IsCaused (asked_to_format form file.now) (F.outside files.old).content
+        (F.outside files.old) (F.outside files.new) result }
+    ensures never_falls { (F.outside files.old).faults ≤ (F.outside files.new).faults }
+    ensures content { (F.outside files.new).content ≡ (F.outside files.old).content }
 {
     let bytes = match source_in(alloc, form.role(), file, files) {
         Ok(bytes) => bytes,

@@ -9,7 +9,6 @@ ghost use Rattle.clause_language.specs.Program.{HasFewArguments};
 ghost use Rattle.clause_language.specs.ReadFile.{DefinitionIsRead};
 ghost use Rattle.search_model.specs.declared.solve.Solved.{Solved};
 ghost use Rattle.fpc_cli.specs.Command.{solve as asked_to_solve};
-ghost use Rattle.fpc_cli.specs.Inputs.{outside};
 ghost use Rattle.fpc_cli.specs.Run.{IsCaused};
 ghost use Rattle.fpc_cli.specs.commands.Solve.{IsRead, IsProgramOf, IsSearch, IsEndNamed, HasText, answer_of, IsAtomAnswer, IsAnswerTo};
 
@@ -187,11 +186,11 @@ pub fn solved<F: Files>(
     atom: &str,
     files: &mut F,
 ) -> Answer
-    ensures caused { IsCaused (asked_to_solve budget definition.now atom.now) (F.content files.old)
-        (outside (F.opened files.old) (F.left files.old) (F.faults files.old))
-        (outside (F.opened files.new) (F.left files.new) (F.faults files.new)) result }
-    ensures never_falls { F.faults files.old ≤ F.faults files.new }
-    ensures content { F.content files.new ≡ F.content files.old }
+    ensures caused { IsCaused (asked_to_solve budget definition.now atom.now)
+        (F.outside files.old).content
+        (F.outside files.old) (F.outside files.new) result }
+    ensures never_falls { (F.outside files.old).faults ≤ (F.outside files.new).faults }
+    ensures content { (F.outside files.new).content ≡ (F.outside files.old).content }
 {
     match source_in(alloc, Role::Definition, definition, files) {
         Ok(bytes) => answer_to(alloc, bytes.as_slice(), atom, budget),

@@ -7,7 +7,7 @@ ghost use Rattle.polarised_formulas.specs.ReadProblem.{ProblemIsRead};
 ghost use Rattle.polarised_formulas.specs.declared.logic.Logic.TheVariants.{Lkf};
 ghost use Rattle.fpc_cli.specs.Command.{verify as asked_to_verify};
 ghost use Rattle.fpc_cli.specs.Grammars.{first_place, lkf_problem};
-ghost use Rattle.fpc_cli.specs.Inputs.{outside, source, stream, IsReadWhole, Decides, Comes};
+ghost use Rattle.fpc_cli.specs.Inputs.{source, stream, IsReadWhole, Decides, Comes};
 ghost use Rattle.fpc_cli.specs.Run.{IsCaused};
 ghost use Rattle.fpc_cli.specs.commands.Verify.{IsAnswerOf, VerifyEnds, EndsVerify};
 
@@ -62,16 +62,14 @@ fn problem_in<F: Files>(
     ensures closed { IfOk result (λ p. IsClosed p.goal) }
     ensures lkf { IfOk result (λ p. IsLkf p.goal) }
     ensures read { IfOk result (λ p. (bytes : List ℕ)
-        × (IsReadWhole (F.content files.old name.now) name.now
-        (outside (F.opened files.old) (F.left files.old) (F.faults files.old))
-        (outside (F.opened files.new) (F.left files.new) (F.faults files.new)) bytes
+        × (IsReadWhole ((F.outside files.old).content name.now) name.now
+        (F.outside files.old) (F.outside files.new) bytes
         × ProblemIsRead (items_of bytes) names.new Lkf p.goal)) }
-    ensures decides { IfErr result (Decides (F.content files.old) []
+    ensures decides { IfErr result (Decides (F.outside files.old).content []
         (source Role.Problem name.now (λ earlier. lkf_problem))
-        (outside (F.opened files.old) (F.left files.old) (F.faults files.old))
-        (outside (F.opened files.new) (F.left files.new) (F.faults files.new))) }
-    ensures never_falls { F.faults files.old ≤ F.faults files.new }
-    ensures content { F.content files.new ≡ F.content files.old }
+        (F.outside files.old) (F.outside files.new)) }
+    ensures never_falls { (F.outside files.old).faults ≤ (F.outside files.new).faults }
+    ensures content { (F.outside files.new).content ≡ (F.outside files.old).content }
 {
     let bytes = match source_in(alloc, Role::Problem, name, files) {
         Ok(bytes) => bytes,
@@ -125,12 +123,11 @@ fn judged<F: Files, L: Ledger>(
     requires one { 0 < L.parts }
     ensures ends { (bytes name : List ℕ)
         → ProblemIsRead (items_of bytes) names.old Lkf problem.now.goal
-        → IsAtStartOf (F.content files.old name) (F.left files.old)
-        → VerifyEnds bytes (F.content files.old name)
-        (outside (F.opened files.old) (F.left files.old) (F.faults files.old))
-        (outside (F.opened files.new) (F.left files.new) (F.faults files.new)) result }
-    ensures never_falls { F.faults files.old ≤ F.faults files.new }
-    ensures content { F.content files.new ≡ F.content files.old }
+        → IsAtStartOf ((F.outside files.old).content name) (F.outside files.old).left
+        → VerifyEnds bytes ((F.outside files.old).content name)
+        (F.outside files.old) (F.outside files.new) result }
+    ensures never_falls { (F.outside files.old).faults ≤ (F.outside files.new).faults }
+    ensures content { (F.outside files.new).content ≡ (F.outside files.old).content }
 {
     let mut steps = Steps::<L>::new(blank);
     let verdict = verify(alloc, names, problem, files, &mut steps);
@@ -152,12 +149,12 @@ fn checked<F: Files>(
     requires lkf { IsLkf problem.now.goal }
     ensures comes { (bytes : List ℕ)
         → ProblemIsRead (items_of bytes) names.old Lkf problem.now.goal
-        → Comes (F.content files.old) (EndsVerify (F.content files.old name.now)) (bytes ∷ [])
+        → Comes (F.outside files.old).content (EndsVerify ((F.outside files.old).content name.now))
+        (bytes ∷ [])
         (stream name.now ∷ [])
-        (outside (F.opened files.old) (F.left files.old) (F.faults files.old))
-        (outside (F.opened files.new) (F.left files.new) (F.faults files.new)) result }
-    ensures never_falls { F.faults files.old ≤ F.faults files.new }
-    ensures content { F.content files.new ≡ F.content files.old }
+        (F.outside files.old) (F.outside files.new) result }
+    ensures never_falls { (F.outside files.old).faults ≤ (F.outside files.new).faults }
+    ensures content { (F.outside files.new).content ≡ (F.outside files.old).content }
 {
     if files.open(name).is_err() {
         return Answer::ReadFault;
@@ -167,11 +164,11 @@ fn checked<F: Files>(
 
 /// The answer to `verify`.
 pub fn verified<F: Files>(alloc: Global, problem: &str, explicit: &str, files: &mut F) -> Answer
-    ensures caused { IsCaused (asked_to_verify problem.now explicit.now) (F.content files.old)
-        (outside (F.opened files.old) (F.left files.old) (F.faults files.old))
-        (outside (F.opened files.new) (F.left files.new) (F.faults files.new)) result }
-    ensures never_falls { F.faults files.old ≤ F.faults files.new }
-    ensures content { F.content files.new ≡ F.content files.old }
+    ensures caused { IsCaused (asked_to_verify problem.now explicit.now)
+        (F.outside files.old).content
+        (F.outside files.old) (F.outside files.new) result }
+    ensures never_falls { (F.outside files.old).faults ≤ (F.outside files.new).faults }
+    ensures content { (F.outside files.new).content ≡ (F.outside files.old).content }
 {
     let mut names = Names::new(alloc);
     match problem_in(alloc, &mut names, problem, files) {

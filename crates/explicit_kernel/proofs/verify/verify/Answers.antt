@@ -3,12 +3,12 @@ use Rattle.explicit_kernel.proofs.Judging.{judged-memory, right-of}
 use Rattle.explicit_kernel.proofs.verify.verify.Goals as goal
 
 pub returns-in-Err-clause-judged : goal.returns-in-Err-clause-judged
-returns-in-Err-clause-judged g c = judged-memory c.args.names.now c.args.problem.now.goal (g.S.Source.left c.args.source.now) c.args.steps.now
+returns-in-Err-clause-judged g c = judged-memory c.args.names.now c.args.problem.now.goal (g.S.Source.outside c.args.source.now).left c.args.steps.now
 
 pub returns-clause-right : goal.returns-clause-right
 returns-clause-right g c =
-    right-of c.verify_through-verdict.new.names c.args.problem.now.goal (g.S.Source.left c.args.source.now) (g.S.Source.left c.verify_through-verdict.new.source) c.args.steps.now c.verify_through-verdict.new.steps c.verify_through-verdict.result
+    right-of c.verify_through-verdict.new.names c.args.problem.now.goal (g.S.Source.outside c.args.source.now).left (g.S.Source.outside c.verify_through-verdict.new.source).left c.args.steps.now c.verify_through-verdict.new.steps c.verify_through-verdict.result
     c.distinct.ensures c.requires.closed c.verify_through-verdict.ensures.judged
 
 pub returns-in-Err-clause-only : goal.returns-in-Err-clause-only
-returns-in-Err-clause-only g c = added-none c.args.names.now (g.S.Source.left c.args.source.now)
+returns-in-Err-clause-only g c = added-none c.args.names.now (g.S.Source.outside c.args.source.now).left

@@ -9,11 +9,11 @@ use Rattle.explicit_kernel.proofs.Judging.{judged-memory, judged-fault, judged-a
 use Rattle.explicit_kernel.proofs.verify.verify_through.Goals as goal
 
 pub returns-in-Err-clause-judged : goal.returns-in-Err-clause-judged
-returns-in-Err-clause-judged g c = judged-memory c.args.names.now c.args.goal.now (g.S.Source.left c.args.source.now) c.args.steps.now
+returns-in-Err-clause-judged g c = judged-memory c.args.names.now c.args.goal.now (g.S.Source.outside c.args.source.now).left c.args.steps.now
 
 pub loop-names-init : goal.loop-names-init
 loop-names-init g c = (
-  ([], (TakesFront-nothing (g.S.Source.left c.args.source.now), (c.in-Ok.ensures.come c.args.names.now, (omega arith, AddsOnly-same (IsPartOf []) c.args.names.now)))),
+  ([], (TakesFront-nothing (g.S.Source.outside c.args.source.now).left, (c.in-Ok.ensures.come c.args.names.now, (omega arith, AddsOnly-same (IsPartOf []) c.args.names.now)))),
   λ k text h. h,
   omega (arith, c.in-Ok.ensures.fitted),
   refl,
@@ -24,17 +24,17 @@ loop-names-init g c = (
 pub returns-in-Ok-finish-clause-judged : goal.returns-in-Ok-finish-clause-judged
 returns-in-Ok-finish-clause-judged g c =
     let r = c.loop-names.invariant.0 in
-    judged-accepted c.loop-names.names c.args.goal.now (g.S.Source.left c.args.source.now) (g.S.Source.left c.loop-names.source) (g.S.Source.left c.read.new.self) c.args.steps.now c.loop-names.steps r.0 c.loop-names.check r.1.0 r.1.1.0
+    judged-accepted c.loop-names.names c.args.goal.now (g.S.Source.outside c.args.source.now).left (g.S.Source.outside c.loop-names.source).left (g.S.Source.outside c.read.new.self).left c.args.steps.now c.loop-names.steps r.0 c.loop-names.check r.1.0 r.1.1.0
     c.loop-names.invariant.2 (c.in-Ok-eq0.ensures.end c.in-Ok-eq0.field-0-test)
-    (subst (λ n. TakesFront (g.S.Source.left c.loop-names.source) (take n c.read.new.buf) (g.S.Source.left c.read.new.self)) c.in-Ok-eq0.field-0-test c.in-Ok-eq0.ensures.taken)
+    (subst (λ n. TakesFront (g.S.Source.outside c.loop-names.source).left (take n c.read.new.buf) (g.S.Source.outside c.read.new.self).left) c.in-Ok-eq0.field-0-test c.in-Ok-eq0.ensures.taken)
     c.in-Ok-finish.steps (c.in-Ok-finish.ensures c.loop-names.names c.args.goal.now r.0 c.distinct.ensures r.1.1.0)
 
 pub returns-in-Err-finish-clause-judged : goal.returns-in-Err-finish-clause-judged
 returns-in-Err-finish-clause-judged g c =
     let r = c.loop-names.invariant.0 in
-    judged-unfinished c.loop-names.names c.args.goal.now (g.S.Source.left c.args.source.now) (g.S.Source.left c.loop-names.source) (g.S.Source.left c.read.new.self) c.args.steps.now c.loop-names.steps r.0 c.loop-names.check r.1.0 r.1.1.0
+    judged-unfinished c.loop-names.names c.args.goal.now (g.S.Source.outside c.args.source.now).left (g.S.Source.outside c.loop-names.source).left (g.S.Source.outside c.read.new.self).left c.args.steps.now c.loop-names.steps r.0 c.loop-names.check r.1.0 r.1.1.0
     c.loop-names.invariant.2 (c.in-Ok-eq0.ensures.end c.in-Ok-eq0.field-0-test)
-    (subst (λ n. TakesFront (g.S.Source.left c.loop-names.source) (take n c.read.new.buf) (g.S.Source.left c.read.new.self)) c.in-Ok-eq0.field-0-test c.in-Ok-eq0.ensures.taken)
+    (subst (λ n. TakesFront (g.S.Source.outside c.loop-names.source).left (take n c.read.new.buf) (g.S.Source.outside c.read.new.self).left) c.in-Ok-eq0.field-0-test c.in-Ok-eq0.ensures.taken)
     c.in-Err-finish.stop c.answer_to.result (c.in-Err-finish.ensures c.loop-names.names c.args.goal.now r.0 c.distinct.ensures r.1.1.0) c.answer_to.ensures
 
 pub loop-names-smaller : goal.loop-names-smaller
@@ -55,8 +55,8 @@ loop-names-preserved g c =
       (
         r.0 ++ c.split_at.result.0.now,
         (
-          TakesFront-more (g.S.Source.left c.args.source.now) (g.S.Source.left c.loop-names.source) (g.S.Source.left c.read.new.self) r.0 c.split_at.result.0.now r.1.0
-              (subst (λ bs. TakesFront (g.S.Source.left c.loop-names.source) bs (g.S.Source.left c.read.new.self)) (sym c.split_at.ensures.front) c.in-Ok-read.ensures.taken),
+          TakesFront-more (g.S.Source.outside c.args.source.now).left (g.S.Source.outside c.loop-names.source).left (g.S.Source.outside c.read.new.self).left r.0 c.split_at.result.0.now r.1.0
+              (subst (λ bs. TakesFront (g.S.Source.outside c.loop-names.source).left bs (g.S.Source.outside c.read.new.self).left) (sym c.split_at.ensures.front) c.in-Ok-read.ensures.taken),
           (
             c.in-Ok-take_piece.ensures.come c.args.goal.now r.0 r.1.1.0,
             (
@@ -76,40 +76,40 @@ loop-names-preserved g c =
 pub returns-in-Err-take_piece-clause-judged : goal.returns-in-Err-take_piece-clause-judged
 returns-in-Err-take_piece-clause-judged g c =
     let r = c.loop-names.invariant.0 in
-    judged-stop c.take_piece.new.names c.args.goal.now (g.S.Source.left c.args.source.now) (g.S.Source.left c.loop-names.source) (g.S.Source.left c.read.new.self) c.args.steps.now c.take_piece.new.steps r.0 c.split_at.result.0.now
+    judged-stop c.take_piece.new.names c.args.goal.now (g.S.Source.outside c.args.source.now).left (g.S.Source.outside c.loop-names.source).left (g.S.Source.outside c.read.new.self).left c.args.steps.now c.take_piece.new.steps r.0 c.split_at.result.0.now
     c.take_piece.new.self c.in-Err-take_piece.stop c.answer_to-in-Err-take_piece.result r.1.0
-    (subst (λ bs. TakesFront (g.S.Source.left c.loop-names.source) bs (g.S.Source.left c.read.new.self)) (sym c.split_at.ensures.front) c.in-Ok-read.ensures.taken)
+    (subst (λ bs. TakesFront (g.S.Source.outside c.loop-names.source).left bs (g.S.Source.outside c.read.new.self).left) (sym c.split_at.ensures.front) c.in-Ok-read.ensures.taken)
     (omega (arith, c.split_at.ensures.front_len, c.in-Ok-read.ensures.within, c.read.auto.buf, c.loop-names.auto.buffer, c.requires.buffer)) (omega (arith, c.in-Err-take_piece.ensures.ticks, c.loop-names.invariant.2))
     (c.in-Err-take_piece.ensures.stopped c.args.goal.now r.0 r.1.1.0) c.answer_to-in-Err-take_piece.ensures
 
 pub returns-in-Err-read-clause-judged : goal.returns-in-Err-read-clause-judged
 returns-in-Err-read-clause-judged g c =
     let r = c.loop-names.invariant.0 in
-    judged-fault c.loop-names.names c.args.goal.now (g.S.Source.left c.args.source.now) (g.S.Source.left c.loop-names.source) (g.S.Source.left c.read.new.self) c.args.steps.now c.loop-names.steps r.0 c.loop-names.check r.1.0 r.1.1.0
+    judged-fault c.loop-names.names c.args.goal.now (g.S.Source.outside c.args.source.now).left (g.S.Source.outside c.loop-names.source).left (g.S.Source.outside c.read.new.self).left c.args.steps.now c.loop-names.steps r.0 c.loop-names.check r.1.0 r.1.1.0
     c.loop-names.invariant.2 c.in-Err-read.ensures.none_taken
 
 pub returns-in-Err-clause-only : goal.returns-in-Err-clause-only
-returns-in-Err-clause-only g c = added-none c.args.names.now (g.S.Source.left c.args.source.now)
+returns-in-Err-clause-only g c = added-none c.args.names.now (g.S.Source.outside c.args.source.now).left
 
 pub returns-in-Ok-finish-clause-only : goal.returns-in-Ok-finish-clause-only
 returns-in-Ok-finish-clause-only g c =
     let r = c.loop-names.invariant.0 in
-    added-end c.args.names.now c.loop-names.names (g.S.Source.left c.args.source.now) (g.S.Source.left c.loop-names.source) (g.S.Source.left c.read.new.self) r.0 r.1.0 r.1.1.1.1
-    (subst (λ n. TakesFront (g.S.Source.left c.loop-names.source) (take n c.read.new.buf) (g.S.Source.left c.read.new.self)) c.in-Ok-eq0.field-0-test c.in-Ok-eq0.ensures.taken)
+    added-end c.args.names.now c.loop-names.names (g.S.Source.outside c.args.source.now).left (g.S.Source.outside c.loop-names.source).left (g.S.Source.outside c.read.new.self).left r.0 r.1.0 r.1.1.1.1
+    (subst (λ n. TakesFront (g.S.Source.outside c.loop-names.source).left (take n c.read.new.buf) (g.S.Source.outside c.read.new.self).left) c.in-Ok-eq0.field-0-test c.in-Ok-eq0.ensures.taken)
 
 pub returns-in-Err-finish-clause-only : goal.returns-in-Err-finish-clause-only
 returns-in-Err-finish-clause-only g c =
     let r = c.loop-names.invariant.0 in
-    added-end c.args.names.now c.loop-names.names (g.S.Source.left c.args.source.now) (g.S.Source.left c.loop-names.source) (g.S.Source.left c.read.new.self) r.0 r.1.0 r.1.1.1.1
-    (subst (λ n. TakesFront (g.S.Source.left c.loop-names.source) (take n c.read.new.buf) (g.S.Source.left c.read.new.self)) c.in-Ok-eq0.field-0-test c.in-Ok-eq0.ensures.taken)
+    added-end c.args.names.now c.loop-names.names (g.S.Source.outside c.args.source.now).left (g.S.Source.outside c.loop-names.source).left (g.S.Source.outside c.read.new.self).left r.0 r.1.0 r.1.1.1.1
+    (subst (λ n. TakesFront (g.S.Source.outside c.loop-names.source).left (take n c.read.new.buf) (g.S.Source.outside c.read.new.self).left) c.in-Ok-eq0.field-0-test c.in-Ok-eq0.ensures.taken)
 
 pub returns-in-Err-take_piece-clause-only : goal.returns-in-Err-take_piece-clause-only
 returns-in-Err-take_piece-clause-only g c =
     let r = c.loop-names.invariant.0 in
     record {
       bytes = r.0 ++ c.split_at.result.0.now;
-      taken = TakesFront-more (g.S.Source.left c.args.source.now) (g.S.Source.left c.loop-names.source) (g.S.Source.left c.read.new.self) r.0 c.split_at.result.0.now r.1.0
-          (subst (λ bs. TakesFront (g.S.Source.left c.loop-names.source) bs (g.S.Source.left c.read.new.self)) (sym c.split_at.ensures.front) c.in-Ok-read.ensures.taken);
+      taken = TakesFront-more (g.S.Source.outside c.args.source.now).left (g.S.Source.outside c.loop-names.source).left (g.S.Source.outside c.read.new.self).left r.0 c.split_at.result.0.now r.1.0
+          (subst (λ bs. TakesFront (g.S.Source.outside c.loop-names.source).left bs (g.S.Source.outside c.read.new.self).left) (sym c.split_at.ensures.front) c.in-Ok-read.ensures.taken);
       only = added-all r.0 c.split_at.result.0.now c.args.names.now c.loop-names.names c.take_piece.new.names r.1.1.1.1 (c.in-Err-take_piece.ensures.only c.args.goal.now r.0 r.1.1.0);
     }
 
@@ -118,6 +118,6 @@ returns-in-Err-read-clause-only g c =
     let r = c.loop-names.invariant.0 in
     record {
       bytes = r.0;
-      taken = subst (TakesFront (g.S.Source.left c.args.source.now) r.0) (sym c.in-Err-read.ensures.none_taken) r.1.0;
+      taken = subst (TakesFront (g.S.Source.outside c.args.source.now).left r.0) (sym c.in-Err-read.ensures.none_taken) r.1.0;
       only = r.1.1.1.1;
     }

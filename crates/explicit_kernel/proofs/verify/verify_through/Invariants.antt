@@ -8,12 +8,12 @@ use Rattle.explicit_kernel.proofs.verify.verify_through.Given as goal
 
 abbrev pub invariant-loop-names : goal.invariant-loop-names
 invariant-loop-names g l =
-    ((front : List ℕ) × (TakesFront (g.S.Source.left l.initial.source) front (g.S.Source.left l.source) × (HasCome l.names l.goal front l.check × ((g.S.Source.calls l.source ≤ g.S.Source.calls l.initial.source + length front) × AddsOnly (IsPartOf front) l.initial.names l.names))))
+    ((front : List ℕ) × (TakesFront (g.S.Source.outside l.initial.source).left front (g.S.Source.outside l.source).left × (HasCome l.names l.goal front l.check × (((g.S.Source.outside l.source).calls ≤ (g.S.Source.outside l.initial.source).calls + length front) × AddsOnly (IsPartOf front) l.initial.names l.names))))
     × Grows l.initial.names l.names
     × (l.steps ≡ l.initial.steps + l.check.play.fitted)
-    × (g.S.Source.faults l.source ≡ g.S.Source.faults l.initial.source)
-    × (g.S.Source.content l.source ≡ g.S.Source.content l.initial.source)
-    × (g.S.Source.opened l.source ≡ g.S.Source.opened l.initial.source)
+    × ((g.S.Source.outside l.source).faults ≡ (g.S.Source.outside l.initial.source).faults)
+    × ((g.S.Source.outside l.source).content ≡ (g.S.Source.outside l.initial.source).content)
+    × ((g.S.Source.outside l.source).opened ≡ (g.S.Source.outside l.initial.source).opened)
 
 abbrev pub decreases-loop-names : goal.decreases-loop-names
 decreases-loop-names g l = 67108865 - l.check.reader.at

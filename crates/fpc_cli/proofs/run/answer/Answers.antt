@@ -1,5 +1,4 @@
 use Rattle.std.proofs.Common.{subst}
-use Rattle.fpc_cli.specs.Inputs.{outside}
 use Rattle.fpc_cli.specs.Run.{IsCaused}
 use Rattle.fpc_cli.proofs.run.answer.Goals as goal
 
@@ -8,9 +7,9 @@ returns-in-Verify-clause-caused g c =
     let before = c.args.files.now in
     let after = c.verified.new.files in
     subst
-    (λ asked. IsCaused asked (g.F.Source.content before)
-    (outside (g.F.Source.opened before) (g.F.Source.left before) (g.F.Source.faults before))
-    (outside (g.F.Source.opened after) (g.F.Source.left after) (g.F.Source.faults after))
+    (λ asked. IsCaused asked (g.F.Source.outside before).content
+    (g.F.Source.outside before)
+    (g.F.Source.outside after)
     c.verified.result)
     c.in-Verify.ensures c.verified.ensures.caused
 
@@ -19,9 +18,9 @@ returns-in-Format-clause-caused g c =
     let before = c.args.files.now in
     let after = c.formatted.new.files in
     subst
-    (λ asked. IsCaused asked (g.F.Source.content before)
-    (outside (g.F.Source.opened before) (g.F.Source.left before) (g.F.Source.faults before))
-    (outside (g.F.Source.opened after) (g.F.Source.left after) (g.F.Source.faults after))
+    (λ asked. IsCaused asked (g.F.Source.outside before).content
+    (g.F.Source.outside before)
+    (g.F.Source.outside after)
     c.formatted.result)
     c.in-Format.ensures c.formatted.ensures.caused
 
@@ -30,8 +29,8 @@ returns-in-Solve-clause-caused g c =
     let before = c.args.files.now in
     let after = c.solved.new.files in
     subst
-    (λ asked. IsCaused asked (g.F.Source.content before)
-    (outside (g.F.Source.opened before) (g.F.Source.left before) (g.F.Source.faults before))
-    (outside (g.F.Source.opened after) (g.F.Source.left after) (g.F.Source.faults after))
+    (λ asked. IsCaused asked (g.F.Source.outside before).content
+    (g.F.Source.outside before)
+    (g.F.Source.outside after)
     c.solved.result)
     c.in-Solve.ensures c.solved.ensures.caused

@@ -1,6 +1,5 @@
 use Rattle.std.proofs.Common.{ℕ, List, sym, subst, ◌∙◌}
 use Rattle.fpc_base.specs.Outside.{Content, IsAtStartOf}
-use Rattle.fpc_cli.specs.Inputs.{outside}
 use Rattle.fpc_cli.proofs.commands.VerifyFacts.{from-ok, comes-by}
 use Rattle.fpc_cli.proofs.commands.verify.checked.Goals as goal
 
@@ -11,11 +10,11 @@ returns-clause-comes g c = λ bytes read.
     let after = c.judged.new.files in
     let ok = sym c.is_err.ensures.value ∙ c.if-is_err.false in
     let start = from-ok c.open.result ok c.open.ensures.opened in
-    comes-by (g.F.Source.content before) (g.F.Source.content mid) c.open.ensures.content
+    comes-by (g.F.Source.outside before).content (g.F.Source.outside mid).content c.open.ensures.content
     c.args.name.now bytes
-    (outside (g.F.Source.opened before) (g.F.Source.left before) (g.F.Source.faults before))
-    (outside (g.F.Source.opened mid) (g.F.Source.left mid) (g.F.Source.faults mid))
-    (outside (g.F.Source.opened after) (g.F.Source.left after) (g.F.Source.faults after))
+    (g.F.Source.outside before)
+    (g.F.Source.outside mid)
+    (g.F.Source.outside after)
     c.judged.result
     (record {
       start = start;
@@ -23,5 +22,5 @@ returns-clause-comes g c = λ bytes read.
       calm = from-ok c.open.result ok c.open.ensures.ok_count;
     })
     (c.judged.ensures.ends bytes c.args.name.now read
-    (subst (λ (X : List ℕ → Content). IsAtStartOf (X c.args.name.now) (g.F.Source.left mid))
+    (subst (λ (X : List ℕ → Content). IsAtStartOf (X c.args.name.now) (g.F.Source.outside mid).left)
     (sym c.open.ensures.content) start))
