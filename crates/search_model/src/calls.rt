@@ -148,7 +148,9 @@ pub(crate) fn push_all_answered(
     stack: &mut Vec<Alternative>,
 ) -> Result<(), OutOfMemory>
     ensures { OnOk result (alternatives_of stack.new.items
-        ≡ map (extended (alternative_of rest.now)) (by_clauses no_calculus fits atom.now (length rest.now.levels.items) clauses.now) ++ alternatives_of stack.old.items) }
+        ≡ map (extended (alternative_of rest.now))
+        (by_clauses no_calculus fits atom.now (length rest.now.levels.items) clauses.now)
+        ++ alternatives_of stack.old.items) }
 {
     let mut n = clauses.len();
     while n > 0 {

@@ -20,9 +20,9 @@ pub fn natural_is_apart()
     ensures { NaturalIsApart }
 {}
 
-/// A search takes an equality as unification does: where unification ends with some units, the search
-/// goes on after as many, from the alternative as it is then or without it, and it is spent where
-/// unification is.
+/// A search takes an equality as unification does: where unification ends with some units, the
+/// search goes on after as many, from the alternative as it is then or without it, and it is spent
+/// where unification is.
 pub fn equality_is_unified()
     ensures { EqualityIsUnified }
 {}

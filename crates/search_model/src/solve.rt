@@ -120,7 +120,10 @@ fn take(
     units: &mut u64,
 ) -> Result<bool, OutOfMemory>
     ensures left { IfOk result (λ enough. units.new ≤ units.old) }
-    ensures step { IfOk result (λ enough. running clauses.now units.old (taken no_calculus fits clauses.now (goal_of goal) (alternative_of first) (alternatives_of stack.old.items))
+    ensures step { IfOk result (λ enough.
+        running clauses.now units.old
+        (taken no_calculus fits clauses.now (goal_of goal) (alternative_of first)
+        (alternatives_of stack.old.items))
         ≡ on_from clauses.now units.old units.new enough (between (alternatives_of stack.new.items))) }
 {
     match goal {
