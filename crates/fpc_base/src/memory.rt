@@ -119,11 +119,11 @@ impl Source for MemSource {
     ghost use Rattle.fpc_base.specs.Outside.{untold};
 
     ghost outside = { λ s. record {
-        faults = s.plan.faults;
-        left = Some s.left;
-        content = λ name. untold;
-        opened = None;
-        calls = s.plan.calls
+      faults = s.plan.faults;
+      left = Some s.left;
+      content = λ name. untold;
+      opened = None;
+      calls = s.plan.calls;
     } };
 
     fn read(&mut self, buf: &mut [u8]) -> Result<usize, Failed>
@@ -221,11 +221,11 @@ impl Source for MemFiles {
     ghost use Rattle.fpc_base.specs.Memory.{content_in};
 
     ghost outside = { λ s. record {
-        faults = s.plan.faults;
-        left = Some s.left;
-        content = λ name. content_in s.files name;
-        opened = None;
-        calls = s.plan.calls
+      faults = s.plan.faults;
+      left = Some s.left;
+      content = λ name. content_in s.files name;
+      opened = None;
+      calls = s.plan.calls;
     } };
 
     fn read(&mut self, buf: &mut [u8]) -> Result<usize, Failed>
@@ -335,9 +335,9 @@ impl Sink for MemSink {
     ghost use Rattle.std.specs.Prelude.{Some};
 
     ghost output = { λ s. record {
-        faults = s.plan.faults;
-        taken = Some s.taken;
-        calls = s.plan.calls
+      faults = s.plan.faults;
+      taken = Some s.taken;
+      calls = s.plan.calls;
     } };
 
     fn write(&mut self, bytes: &[u8]) -> Result<usize, Failed>

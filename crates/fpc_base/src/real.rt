@@ -53,11 +53,11 @@ impl<'a, R: rt::Files> Source for StdFiles<'a, R> {
     ghost use Rattle.fpc_base.specs.Outside.{untold};
 
     ghost outside = { λ s. record {
-        faults = s.faults;
-        left = None;
-        content = λ name. untold;
-        opened = None;
-        calls = 0
+      faults = s.faults;
+      left = None;
+      content = λ name. untold;
+      opened = None;
+      calls = 0;
     } };
 
     fn read(&mut self, buf: &mut [u8]) -> Result<usize, Failed>
@@ -124,11 +124,11 @@ impl<R: Read> Source for StdSource<R> {
     ghost use Rattle.fpc_base.specs.Outside.{untold};
 
     ghost outside = { λ s. record {
-        faults = s.faults;
-        left = None;
-        content = λ name. untold;
-        opened = None;
-        calls = 0
+      faults = s.faults;
+      left = None;
+      content = λ name. untold;
+      opened = None;
+      calls = 0;
     } };
 
     fn read(&mut self, buf: &mut [u8]) -> Result<usize, Failed>
