@@ -25,10 +25,10 @@ impl<T: Drop> From<AllocFailed<T>> for OutOfMemory {
 }
 
 /// Where bytes come from. Its ghost `outside` is a record: `faults` counts its failures and never
-/// falls; at its last value, the greatest `u64`, it stands still. `left` has the bytes still to come
-/// and `content` the files by name, each where the source tells it; `opened` has the names of the
-/// files that were opened so far, one after the other, where they are told; `calls` bounds the number
-/// of calls so far for a source that counts them.
+/// falls; at its last value, the greatest `u64`, it stands still. `left` has the bytes still to
+/// come and `content` the files by name, each where the source tells it; `opened` has the names of
+/// the files that were opened so far, one after the other, where they are told; `calls` bounds the
+/// number of calls so far for a source that counts them.
 pub trait Source {
     ghost outside: { Self → Outside };
 
@@ -67,8 +67,8 @@ pub trait Files: Source {
         ensures calls { (Self.outside self.new).calls ≤ (Self.outside self.old).calls + 1 };
 }
 
-/// Where bytes go. Its ghost `output` is a record: `faults` is as of a `Source`, `taken` has the bytes
-/// taken so far, where the sink tells them, and `calls` bounds the number of calls so far.
+/// Where bytes go. Its ghost `output` is a record: `faults` is as of a `Source`, `taken` has the
+/// bytes taken so far, where the sink tells them, and `calls` bounds the number of calls so far.
 pub trait Sink {
     ghost output: { Self → Output };
 
@@ -80,7 +80,8 @@ pub trait Sink {
         ensures failed { OnErr result (Rose (output self.old).faults (output self.new).faults) }
         ensures some { IfOk result (λ n. 0 < n) }
         ensures within { IfOk result (λ n. n ≤ length bytes.now) }
-        ensures added { IfOk result (λ n. Adds (output self.old).taken (take n bytes.now) (output self.new).taken) }
+        ensures added { IfOk result (λ n. Adds (output self.old).taken (take n bytes.now)
+            (output self.new).taken) }
         ensures none_added { OnErr result ((output self.new).taken ≡ (output self.old).taken) }
         ensures calls { (output self.new).calls ≤ (output self.old).calls + 1 };
 }

@@ -113,7 +113,8 @@ pub fn put<S: Sink>(sink: &mut S, bytes: &[u8]) -> Result<(), Failed>
     ensures ok_count { OnOk result ((S.output sink.new).faults ≡ (S.output sink.old).faults) }
     ensures all { OnOk result (Adds (S.output sink.old).taken bytes.now (S.output sink.new).taken) }
     ensures failed { OnErr result (Rose (S.output sink.old).faults (S.output sink.new).faults) }
-    ensures prefix { OnErr result (AddsPrefix (S.output sink.old).taken bytes.now (S.output sink.new).taken) }
+    ensures prefix { OnErr result (AddsPrefix (S.output sink.old).taken bytes.now
+        (S.output sink.new).taken) }
     ensures calls { (S.output sink.new).calls ≤ (S.output sink.old).calls + length bytes.now + 1 }
 {
     let mut done = 0;

@@ -35,7 +35,8 @@ fn answer<F: Files>(alloc: Global, words: &Words, files: &mut F) -> Answer
 
 /// Writes a text that was made, and gives the status.
 fn write<S: Sink>(status: Status, text: &[u8], out: &mut S) -> Status
-    ensures { IsPut status.code text.now result.code (S.output out.old).faults (S.output out.new).faults
+    ensures { IsPut status.code text.now result.code
+        (S.output out.old).faults (S.output out.new).faults
         (S.output out.old).taken (S.output out.new).taken }
 {
     match put(out, text) {
@@ -51,7 +52,8 @@ fn write<S: Sink>(status: Status, text: &[u8], out: &mut S) -> Status
 pub fn run<F: Files, S: Sink>(alloc: Global, words: &Words, files: &mut F, out: &mut S) -> Status
     ensures answered { IsAnswered (asked_by words.now) (F.outside files.old).content
         (F.outside files.old) (F.outside files.new) result.code
-        (S.output out.old).faults (S.output out.new).faults (S.output out.old).taken (S.output out.new).taken }
+        (S.output out.old).faults (S.output out.new).faults
+        (S.output out.old).taken (S.output out.new).taken }
     ensures never_falls { (F.outside files.old).faults ≤ (F.outside files.new).faults }
     ensures content { (F.outside files.new).content ≡ (F.outside files.old).content }
 {
