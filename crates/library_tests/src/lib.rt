@@ -5,6 +5,14 @@
 #[cfg(test)]
 mod base;
 #[cfg(test)]
+mod clauses;
+#[cfg(test)]
+mod form;
+#[cfg(test)]
+mod formulas;
+#[cfg(test)]
+mod rules;
+#[cfg(test)]
 mod terms;
 #[cfg(test)]
 mod told;

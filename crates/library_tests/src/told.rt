@@ -1,6 +1,11 @@
-//! Refusals as texts, and long texts.
+//! Refusals as texts, long texts, and steps of lines.
+use explicit_form::StepReader;
 use fpc_base::ParseRefusal;
+use fpc_terms::Names;
+use polarised_formulas::{Logic, Step};
 use std::alloc::{AllocError, Global};
+use std::process::Abort;
+use std::test::Fail;
 
 /// A refusal as `CODE at PLACE`.
 pub(crate) fn refusal_text(alloc: Global, refusal: ParseRefusal) -> Result<Vec<u8>, AllocError> {
@@ -35,4 +40,23 @@ pub(crate) fn long_text(
     }
     text.extend_from_slice(back.as_bytes())?;
     Ok(text)
+}
+
+/// The step of a line.
+pub(crate) fn step_of(
+    rt: &impl Abort,
+    alloc: Global,
+    names: &mut Names,
+    logic: Logic,
+    line: &str,
+) -> Result<Step, Fail> {
+    let header = match logic {
+        Logic::Lkf => "fpc 1 lkf\n",
+        Logic::Ljf => "fpc 1 ljf\n",
+    };
+    let mut reader = StepReader::new(alloc, logic);
+    assert_eq!(rt; reader.feed(names, header.as_bytes()), Ok(10));
+    assert_eq!(rt; reader.feed(names, line.as_bytes()), Ok(line.len()));
+    assert_eq!(rt; reader.feed(names, b"\n"), Ok(1), "{line}");
+    Ok(reader.take().ok_or("no step")?)
 }

@@ -5,7 +5,6 @@ use fpc_terms::builder::TermBuilder;
 use fpc_terms::term::equal;
 use fpc_terms::{NameId, Names, TermBuf, VarTable, read_term};
 use std::alloc::Global;
-use std::process::Abort;
 use std::test::Fail;
 
 /// Adds what a letter says: `$`, `#` or `V` is a leaf, `c` a constant, `(` opens an application and `)` closes it.
@@ -23,123 +22,136 @@ fn add(terms: &mut TermBuilder, name: NameId, letter: u8) -> Result<bool, OutOfM
     }
 }
 
-/// Adds what the letters say, so many times.
+/// Adds what the letters say, so many times; answers whether all of it fits.
 fn add_all(
-    rt: &impl Abort,
     terms: &mut TermBuilder,
     name: NameId,
     letters: &str,
     times: usize,
-) -> Result<(), OutOfMemory> {
+) -> Result<bool, OutOfMemory> {
+    let mut fits = true;
     for _ in 0..times {
         for letter in letters.as_bytes() {
-            assert!(rt; add(terms, name, *letter)?, "{letters}");
+            fits = add(terms, name, *letter)? && fits;
         }
     }
-    Ok(())
+    Ok(fits)
 }
 
-/// The cells of `f($3,f(#1,f),V2)`.
-const APPLICATION: &str =
-    "[App(NameId { number: 0 }, 3), Eigen(3), App(NameId { number: 0 }, 2), Bound(1), App(NameId { number: 0 }, 0), Var(2)]";
-
-#[test]
-fn applications_get_their_arguments(rt: HostRuntime) -> Result<(), Fail> {
-    let mut names = Names::new(rt.alloc());
-    let f = names.intern(b"f")?;
-    let mut terms = TermBuilder::new(rt.alloc());
-    add_all(&rt, &mut terms, f, "($(#c)V", 1)?;
-    assert!(rt; !terms.is_closed());
-    assert!(rt; terms.finish(rt.alloc())?.is_none());
-    add_all(&rt, &mut terms, f, ")", 1)?;
-    assert!(rt; terms.is_closed());
-    let term = terms.finish(rt.alloc())?.ok_or("no term")?;
-    let cells = term.cells();
-    let told = format!(in rt.alloc(); "{cells:?}")?;
-    assert_eq!(rt; told.as_str(), APPLICATION);
-    Ok(())
-}
-
-/// Whether so many leaves leave no room for more of any kind, after other letters.
-fn is_full(rt: &impl Abort, alloc: Global, front: &str, times: usize) -> Result<bool, Fail> {
+/// Builds what the letters say, and tells the cells, whether no application is open, and whether it is one term.
+fn built(alloc: Global, letters: &str) -> Result<String, Fail> {
     let mut names = Names::new(alloc);
     let f = names.intern(b"f")?;
     let mut terms = TermBuilder::new(alloc);
-    add_all(rt, &mut terms, f, front, 1)?;
-    add_all(rt, &mut terms, f, "$", times)?;
-    let room = terms.has_room();
-    for letter in b"$#Vc(" {
-        if times >= 255 {
-            assert!(rt; !add(&mut terms, f, *letter)?);
-        }
-    }
-    Ok(!room)
+    let fits = add_all(&mut terms, f, letters, 1)?;
+    let is_closed = terms.is_closed();
+    let is_term = terms.finish(alloc)?.is_some();
+    let cells = terms.cells();
+    Ok(format!(in alloc; "{fits} {is_closed} {is_term} {cells:?}")?)
 }
 
-const FULL: &[(&str, usize, bool)] = &[
-    ("", 254, false),
-    ("", 255, true),
-    ("((", 254, false),
-    ("((", 255, true),
+/// Letters, and what is told of them.
+const BUILT: &[(&str, &str)] = &[
+    (
+        "($(#c)V)",
+        "true true true [App(NameId { number: 0 }, 3), Eigen(3), App(NameId { number: 0 }, 2), Bound(1), App(NameId { number: 0 }, 0), Var(2)]",
+    ),
+    (
+        "(V",
+        "true false false [App(NameId { number: 0 }, 1), Var(2)]",
+    ),
+    ("$#", "true true false [Eigen(3), Bound(1)]"),
+    ("", "true true false []"),
+];
+
+#[test]
+fn applications_get_their_arguments(rt: HostRuntime) -> Result<(), Fail> {
+    for (letters, due) in BUILT {
+        let told = built(rt.alloc(), letters)?;
+        assert_eq!(rt; told.as_str(), *due, "{letters}");
+    }
+    Ok(())
+}
+
+/// After some letters and so many leaves: whether there is room, and whether another letter fits.
+fn room_after(alloc: Global, front: &str, times: usize, letter: u8) -> Result<(bool, bool), Fail> {
+    let mut names = Names::new(alloc);
+    let f = names.intern(b"f")?;
+    let mut terms = TermBuilder::new(alloc);
+    add_all(&mut terms, f, front, 1)?;
+    add_all(&mut terms, f, "$", times)?;
+    let room = terms.has_room();
+    Ok((room, add(&mut terms, f, letter)?))
+}
+
+const ROOM: &[(&str, usize, u8, bool)] = &[
+    ("", 254, b'$', true),
+    ("", 255, b'$', false),
+    ("((", 254, b'(', true),
+    ("((", 255, b'$', false),
+    ("((", 255, b'#', false),
+    ("((", 255, b'V', false),
+    ("((", 255, b'c', false),
+    ("((", 255, b'(', false),
 ];
 
 #[test]
 fn at_most_255_terms_stand_beside_another(rt: HostRuntime) -> Result<(), Fail> {
-    for (front, times, due) in FULL {
-        assert_eq!(rt;
-            is_full(&rt, rt.alloc(), front, *times)?,
-            *due,
-            "{front} {times}"
-        );
+    for (front, times, letter, due) in ROOM {
+        let found = room_after(rt.alloc(), front, *times, *letter)?;
+        assert_eq!(rt; found, (*due, *due), "{front} {times}");
     }
     Ok(())
 }
 
-/// A term, with the numbers of its names and variables in tables.
-fn term(
-    alloc: Global,
-    names: &mut Names,
-    vars: &mut VarTable,
-    text: &str,
-) -> Result<TermBuf, Fail> {
-    let mut tokens = Tokens::new(text.as_bytes());
-    Ok(read_term(alloc, names, &mut tokens, vars, None)?)
-}
-
-/// Takes a term apart: whether it begins with `f`, how many arguments it has, and whether the last of them is a term.
-fn expect_apart(
-    rt: &impl Abort,
-    alloc: Global,
-    text: &str,
-    (is_f, count, last): (bool, usize, &str),
-) -> Result<(), Fail> {
+/// Whether a term has a name at its head, and how many arguments.
+fn apart(alloc: Global, text: &str) -> Result<(bool, usize), Fail> {
     let mut names = Names::new(alloc);
-    let f = names.intern(b"f")?;
     let mut vars = VarTable::new(alloc);
-    let whole = term(alloc, &mut names, &mut vars, text)?;
-    let found = arguments(alloc, &whole)?;
-    assert_eq!(rt; head(&whole) == Some(f), is_f, "{text}");
-    assert_eq!(rt; found.len(), count, "{text}");
-    if let Some(one) = found.items().last() {
-        let other = term(alloc, &mut names, &mut vars, last)?;
-        assert!(rt; equal(one, &other), "{text}");
-        assert!(rt; !equal(one, &whole), "{text}");
-    }
-    Ok(())
+    let mut tokens = Tokens::new(text.as_bytes());
+    let term = read_term(alloc, &mut names, &mut tokens, &mut vars, None)?;
+    Ok((head(&term).is_some(), arguments(alloc, &term)?.len()))
 }
 
-const APART: &[(&str, (bool, usize, &str))] = &[
-    ("f(g(X,g(a)),b,Y)", (true, 3, "Y")),
-    ("f(g(X,g(a)))", (true, 1, "g(X,g(a))")),
-    ("g(b,g(X,g(a)))", (false, 2, "g(X,g(a))")),
-    ("f", (true, 0, "")),
-    ("X", (false, 0, "")),
+const APART: &[(&str, bool, usize)] = &[
+    ("f(g(X,g(a)),b,Y)", true, 3),
+    ("f(g(X,g(a)))", true, 1),
+    ("f", true, 0),
+    ("X", false, 0),
 ];
 
 #[test]
 fn terms_are_taken_apart(rt: HostRuntime) -> Result<(), Fail> {
-    for (text, due) in APART {
-        expect_apart(&rt, rt.alloc(), text, *due)?;
+    for (text, named, count) in APART {
+        let found = apart(rt.alloc(), text)?;
+        assert_eq!(rt; found, (*named, *count), "{text}");
+    }
+    Ok(())
+}
+
+/// Whether two terms are the same.
+fn are_equal(alloc: Global, one: &str, other: &str) -> Result<bool, Fail> {
+    let mut names = Names::new(alloc);
+    let mut vars = VarTable::new(alloc);
+    let mut tokens = Tokens::new(one.as_bytes());
+    let first = read_term(alloc, &mut names, &mut tokens, &mut vars, None)?;
+    tokens = Tokens::new(other.as_bytes());
+    let second = read_term(alloc, &mut names, &mut tokens, &mut vars, None)?;
+    Ok(equal(&first, &second))
+}
+
+const EQUAL: &[(&str, &str, bool)] = &[
+    ("f(g(X),b,Y)", "f(g(X),b,Y)", true),
+    ("f(g(X),b,Y)", "f(g(X),b,X)", false),
+    ("f(a)", "f(a,a)", false),
+    ("X", "Y", false),
+];
+
+#[test]
+fn the_same_terms_are_equal(rt: HostRuntime) -> Result<(), Fail> {
+    for (one, other, due) in EQUAL {
+        let found = are_equal(rt.alloc(), one, other)?;
+        assert_eq!(rt; found, *due, "{one} and {other}");
     }
     Ok(())
 }
