@@ -1,0 +1,4 @@
+//! Sources, files and sinks, and tokens.
+
+mod outside;
+mod tokens;

@@ -1,0 +1,4 @@
+//! Explicit certificates read in pieces, and printed.
+
+mod printing;
+mod reading;

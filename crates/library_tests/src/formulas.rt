@@ -1,0 +1,4 @@
+//! Formulas.
+
+mod building;
+mod plain;

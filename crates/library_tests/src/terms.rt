@@ -1,0 +1,5 @@
+//! Names, terms and variables.
+
+mod building;
+mod reading;
+mod substitution;
