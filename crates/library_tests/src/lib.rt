@@ -11,6 +11,8 @@ mod form;
 #[cfg(test)]
 mod formulas;
 #[cfg(test)]
+mod kernel;
+#[cfg(test)]
 mod rules;
 #[cfg(test)]
 mod terms;
