@@ -14,16 +14,16 @@ use Rattle.explicit_form.specs.Feeding.{step_with, is_whole}
 pub data Judgment : Type 0 where
   -- so many steps spell a derivation of the goal
   accepted : (steps : ℕ) → Judgment
-  -- the step with this number, counted from 1, does not fit, is missing or is one too many; its line
-  -- ends at this place
+  -- the step with this number, counted from 1, does not fit, is missing or is one too many; its
+  -- line ends at this place
   rejected : (step place : ℕ) → Judgment
   -- the bytes are refused, and so many steps have fitted before
   refused : Refusal → (fitted : ℕ) → Judgment
 
 -- how far the judgment has come, with sequents of S
 pub data Course (S : Type 0) : Type 0 where
-  -- Nothing is shown yet: what was read, the sequents still to be derived, each with its level, and how
-  -- many steps have fitted.
+  -- Nothing is shown yet: what was read, the sequents still to be derived, each with its level, and
+  -- how many steps have fitted.
   going : State → (pending : List (ℕ × S)) → (fitted : ℕ) → Course S
   judged : Judgment → Course S
 
@@ -51,8 +51,8 @@ module _ {S : Type 0} where
   at_end place (judged j) = j
 
 module _ (C : RuleCalculus) where
-  -- The step replaces the next sequent by the premises of the rule that it names there. Where it names
-  -- none, or no sequent is left, it does not fit.
+  -- The step replaces the next sequent by the premises of the rule that it names there. Where it
+  -- names none, or no sequent is left, it does not fit.
   abbrev pub played : Step → List (LevelledIn C) → Option (List (LevelledIn C))
   played step [] = None
   played step ((n, c) ∷ q) = in_front (C.premises_of step n c) q

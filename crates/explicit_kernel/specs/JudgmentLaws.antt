@@ -34,8 +34,8 @@ pub data WhyRejected (C : RuleCalculus) (st : State) (steps : List Step) (pendin
   -- it is the last line, and a sequent is left
   unfinished : is_whole st ≡ true → steps_of st ≡ steps → pending ≢ [] → WhyRejected C st steps pending
 
--- The line that ends at this place is rejected. Nothing is reported of the bytes up to and with its end,
--- and the steps before it, one fewer than k, fit.
+-- The line that ends at this place is rejected. Nothing is reported of the bytes up to and with its
+-- end, and the steps before it, one fewer than k, fit.
 pub record IsRejectedAt (C : RuleCalculus) (number : List ℕ → ℕ) (goal : Formula) (bytes : List ℕ) (k place : ℕ) : Type 0 where
   pub front : List ℕ
   pub rest : List ℕ
@@ -57,8 +57,9 @@ pub data WhyRefusedBehind (C : RuleCalculus) (number : List ℕ → ℕ) (front 
       → fault (length front) (run number C.logic start front) (go number C.logic (run number C.logic start front) b) ≡ Some r
       → WhyRefusedBehind C number front (b ∷ more) r
 
--- The bytes are refused so before a line is rejected: nothing is reported of the front, the steps whose
--- lines end in it are so many and fit, and where the front ends with the last line no sequent is left.
+-- The bytes are refused so before a line is rejected: nothing is reported of the front, the steps
+-- whose lines end in it are so many and fit, and where the front ends with the last line no sequent
+-- is left.
 pub record IsRefusedFirst (C : RuleCalculus) (number : List ℕ → ℕ) (goal : Formula) (bytes : List ℕ) (r : Refusal) (n : ℕ) : Type 0 where
   pub is_told : outcome number C.logic start 0 bytes ≡ outcome_refused r
   pub front : List ℕ
@@ -86,7 +87,8 @@ module _ (C : RuleCalculus) where
       (text : ℕ → List ℕ) (number : List ℕ → ℕ) (goal : Formula) (bytes : List ℕ) (n : ℕ)
       (h : IsAccepted C text number goal bytes n) → node_count h.spelling.derivation.of ≡ n
 
-  -- a certificate is rejected at a step and a place exactly where the line that ends there is rejected
+  -- a certificate is rejected at a step and a place exactly where the line that ends there is
+  -- rejected
   abbrev pub RejectedAtLine : Type 0
   RejectedAtLine =
       (number : List ℕ → ℕ) (goal : Formula) (bytes : List ℕ) (k place : ℕ)
@@ -99,8 +101,8 @@ module _ (C : RuleCalculus) where
       → (goal : Formula) (bytes : List ℕ) (k place : ℕ) (h : IsRejectedAt C number goal bytes k place)
       → BeginsCertificate text number C.logic (h.front ++ 10 ∷ [])
 
-  -- a certificate is refused, with so many steps that fit, exactly where its bytes are refused before a
-  -- line is rejected
+  -- a certificate is refused, with so many steps that fit, exactly where its bytes are refused
+  -- before a line is rejected
   abbrev pub RefusedFirst : Type 0
   RefusedFirst =
       (number : List ℕ → ℕ) (goal : Formula) (bytes : List ℕ) (r : Refusal) (n : ℕ)
@@ -112,8 +114,8 @@ module _ (C : RuleCalculus) where
       (number : List ℕ → ℕ) (goal : Formula) (front more : List ℕ) (j : Judgment)
       → course_of C number goal front ≡ judged j → judgment C number goal (front ++ more) ≡ j
 
-  -- A certificate has the same judgment by any two numberings that give the names back. The goal is what
-  -- a written formula stands for by the same numbering.
+  -- A certificate has the same judgment by any two numberings that give the names back. The goal is
+  -- what a written formula stands for by the same numbering.
   abbrev pub NumbersDontMatter : Type 0
   NumbersDontMatter =
       (text text' : ℕ → List ℕ) (number number' : List ℕ → ℕ)

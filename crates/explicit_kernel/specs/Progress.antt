@@ -18,8 +18,8 @@ abbrev pub IsUnfit : Option Step → play.Play → Type 0
 IsUnfit None old = ⊥
 IsUnfit (Some step) old = (r : List Levelled) → PlaysOne old.pending step r → ⊥
 
--- Where memory may run out in playing a step at sequents: at `cut` already in the test of its formula,
--- unless no sequent is left, at every other step only where it fits.
+-- Where memory may run out in playing a step at sequents: at `cut` already in the test of its
+-- formula, unless no sequent is left, at every other step only where it fits.
 abbrev pub MayRunOutAt : Step → List Levelled → Type 0
 MayRunOutAt (Cut b) q = q ≢ []
 MayRunOutAt step q = Fits q step

@@ -28,7 +28,8 @@ IsShown c taken left before now (Err (Refused r)) =
 IsShown c taken left before now (Err ReadFault) = (st : State) × ((q : List Levelled) × ((n : ℕ) × ((c ≡ going st q n) × (now ≡ before + n))))
 IsShown c taken left before now (Err OutOfMemory) = Unit {0}
 
--- a front of the bytes of a certificate for the goal shows nothing, and so many steps have fitted in it
+-- a front of the bytes of a certificate for the goal shows nothing, and so many steps have fitted
+-- in it
 pub record HasFitted (number : List ℕ → ℕ) (goal : Formula) (bytes : List ℕ) (n : ℕ) : Type 0 where
   pub front : List ℕ
   pub rest : List ℕ
@@ -37,9 +38,10 @@ pub record HasFitted (number : List ℕ → ℕ) (goal : Formula) (bytes : List 
   pub pending : List Levelled
   pub shows : course_of number goal front ≡ going read pending n
 
--- Some bytes were taken from the front of a source, and they show the answer of a certificate for the
--- goal, by each numbering that agrees with the table of names. Where memory ran out, the ticks are of the
--- steps that have fitted. Of a source that doesn't tell what is left any bytes may have been taken.
+-- Some bytes were taken from the front of a source, and they show the answer of a certificate for
+-- the goal, by each numbering that agrees with the table of names. Where memory ran out, the ticks
+-- are of the steps that have fitted. Of a source that doesn't tell what is left any bytes may have
+-- been taken.
 pub record IsJudged (names : List (List ℕ)) (goal : Formula) (old new : Option (List ℕ)) (before now : ℕ) (answer : Result Verdict VerifyRefusal) : Type 0 where
   pub bytes : List ℕ
   pub taken : TakesFront old bytes new
@@ -48,8 +50,8 @@ pub record IsJudged (names : List (List ℕ)) (goal : Formula) (old new : Option
   pub fitted : answer ≡ Err OutOfMemory → (number : List ℕ → ℕ) → Agrees number names
       → (n : ℕ) × (HasFitted number goal bytes n × (now ≡ before + n))
 
--- some bytes were taken from the front of a source, and each name that came into the table is a part of
--- them
+-- some bytes were taken from the front of a source, and each name that came into the table is a
+-- part of them
 pub record AddsRead (old new : Option (List ℕ)) (names more : List (List ℕ)) : Type 0 where
   pub bytes : List ℕ
   pub taken : TakesFront old bytes new

@@ -52,10 +52,11 @@ impl Pending {
         self.shared.is_empty()
     }
 
-    /// Replaces the next sequent by the premises of the rule instance that the step names, which stand
-    /// before the others. Where no sequent is left, or the step names no instance at the next one, it does
-    /// not fit; a `cut` may run out of memory before that is known. Time and memory are linear in the
-    /// sizes of the formula that the step works on and of the step, but for what is dropped.
+    /// Replaces the next sequent by the premises of the rule instance that the step names, which
+    /// stand before the others. Where no sequent is left, or the step names no instance at the next
+    /// one, it does not fit; a `cut` may run out of memory before that is known. Time and memory
+    /// are linear in the sizes of the formula that the step works on and of the step, but for what
+    /// is dropped.
     pub(crate) fn play(&mut self, alloc: Global, step: &Step) -> Result<(), StepRefusal>
         requires levels { AllByRecursion (λ p. p.0 < 2 ^ 64 - 1) self.old }
         ensures fits { OnOk result (PlaysOne self.old step.now self.new) }

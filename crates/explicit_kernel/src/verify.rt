@@ -96,11 +96,12 @@ fn verify_through<S: Source, L: Ledger>(
     }
 }
 
-/// Checks the explicit certificate that the source holds for the problem's goal, as its bytes come: each step replaces the next
-/// sequent by the premises of the rule that it names. Each step that fits is one tick. A step is judged
-/// when its line end is read, so of a refusal and a rejection the one that lies first is reported. At
-/// most 65,536 bytes are taken after the byte at which an answer lies. Time is linear in the bytes and in the sizes of the formulas that the steps work on; memory is that of the
-/// sequents still to be derived, of one line and of the names.
+/// Checks the explicit certificate that the source holds for the problem's goal, as its bytes come:
+/// each step replaces the next sequent by the premises of the rule that it names. Each step that
+/// fits is one tick. A step is judged when its line end is read, so of a refusal and a rejection
+/// the one that lies first is reported. At most 65,536 bytes are taken after the byte at which an
+/// answer lies. Time is linear in the bytes and in the sizes of the formulas that the steps work
+/// on; memory is that of the sequents still to be derived, of one line and of the names.
 pub fn verify<S: Source, L: Ledger>(
     alloc: Global,
     names: &mut Names,

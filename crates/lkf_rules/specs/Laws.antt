@@ -25,8 +25,8 @@ KeepsUnderExchange =
     → (u : Tree) × (root_sequent u ≡ with_stored fs (root_sequent t)) × IsDerivation u
     × (node_count u ≡ node_count t)
 
--- at a sequent in scope, the premises that a step names are exactly those of an instance of a rule that
--- it spells there
+-- at a sequent in scope, the premises that a step names are exactly those of an instance of a rule
+-- that it spells there
 abbrev pub NamesInstances : Type 0
 NamesInstances =
     (step : Step) (n : ℕ) (c : Sequent) (ps : List Levelled) → IsInScope (n, c)

@@ -4,8 +4,8 @@ ghost use Rattle.polarised_formulas.specs.Calculus.Laws.{PlayIsSpelling, PlayIsS
 ghost use Rattle.lkf_rules.specs.Lkf.{lkf};
 ghost use Rattle.lkf_rules.specs.Laws.{KeepsUnderExchange, NamesInstances};
 
-/// The premises that a step names at a sequent in scope are those of an instance of a rule. Scope and
-/// logic are kept, and levels rise by at most one.
+/// The premises that a step names at a sequent in scope are those of an instance of a rule. Scope
+/// and logic are kept, and levels rise by at most one.
 pub fn lawfulness()
     ensures { IsLawful lkf }
 {}
@@ -35,14 +35,14 @@ pub fn determinacy()
     ensures one_spelling { HasOneSpelling lkf }
 {}
 
-/// The order of the stored formulas does not matter: with them in another order, a sequent that has a
-/// derivation has one with as many nodes.
+/// The order of the stored formulas does not matter: with them in another order, a sequent that has
+/// a derivation has one with as many nodes.
 pub fn exchange()
     ensures { KeepsUnderExchange }
 {}
 
-/// The premises that a step names at a sequent in scope are exactly those of an instance of a rule that
-/// it spells there. Scope and logic are kept from the root on.
+/// The premises that a step names at a sequent in scope are exactly those of an instance of a rule
+/// that it spells there. Scope and logic are kept from the root on.
 pub fn instances()
     ensures instance { NamesInstances }
     ensures scope { KeepsScope lkf }

@@ -1,5 +1,5 @@
--- Calculi whose steps name instances of rules, and what derivations, certificates and play are in any
--- of them.
+-- Calculi whose steps name instances of rules, and what derivations, certificates and play are in
+-- any of them.
 pub mod Rules
 pub mod Derivation
 pub mod Certificate

@@ -36,8 +36,8 @@ has_disjunction Lkf p = true
 has_disjunction Ljf Positive = true
 has_disjunction Ljf Negative = false
 
--- the formula, under d quantifiers, may be cut at level n: it is of the logic, it has no variable and no
--- free bound index, and its eigenvariables are below n
+-- the formula, under d quantifiers, may be cut at level n: it is of the logic, it has no variable
+-- and no free bound index, and its eigenvariables are below n
 abbrev pub may_be_cut : Logic → ℕ → ℕ → Formula → Bool
 may_be_cut l n d (truth p) = true
 may_be_cut l n d (falsity p) = has_disjunction l p
@@ -67,8 +67,8 @@ is_cut_node l n d ForAll = true
 is_cut_node l n d Exists = true
 is_cut_node l n d (Inside c) = is_scoped_cell n d c
 
--- all the nodes may; cells that come first are under d quantifiers, the formulas to come under those of
--- the list
+-- all the nodes may; cells that come first are under d quantifiers, the formulas to come under
+-- those of the list
 abbrev pub are_cut_nodes : Logic → ℕ → ℕ → List ℕ → List Node → Bool
 are_cut_nodes l n d s [] = true
 are_cut_nodes l n d s (x ∷ ns) =

@@ -1,4 +1,5 @@
-//! Which eigenvariables stand in formulas, and which terms and formulas a step may bring in at a level.
+//! Which eigenvariables stand in formulas, and which terms and formulas a step may bring in at a
+//! level.
 ghost use Rattle.std.specs.Prelude.{◌≡◌, OnOk, IfOk};
 ghost use Rattle.std.specs.List.{list_all, list_any};
 ghost use Rattle.polarised_formulas.specs.Formula.{has_eigen_in};
@@ -128,9 +129,9 @@ impl Walk {
     }
 }
 
-/// Whether the formula may be cut at a level: it is of the logic, it has no variable and no free bound
-/// index, and its eigenvariables are below the level. Time is linear in the formula's size, and memory
-/// in its depth.
+/// Whether the formula may be cut at a level: it is of the logic, it has no variable and no free
+/// bound index, and its eigenvariables are below the level. Time is linear in the formula's size,
+/// and memory in its depth.
 pub fn may_be_cut(alloc: Global, logic: Logic, f: &Formula, level: u64) -> Result<bool, OutOfMemory>
     ensures { IfOk result (λ b. b ≡ may_be_cut logic level 0 f.now) }
 {

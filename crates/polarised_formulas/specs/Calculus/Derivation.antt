@@ -1,4 +1,5 @@
--- Derivations: finite trees of sequents in which each node and its children are an instance of a rule.
+-- Derivations: finite trees of sequents in which each node and its children are an instance of a
+-- rule.
 use Rattle.std.specs.Prelude.{◌≡◌, ℕ, suc, ◌+◌, List, [], ◌∷◌}
 use Rattle.polarised_formulas.specs.Formula.{Formula}
 use Rattle.polarised_formulas.specs.Calculus.Rules.{RuleCalculus}

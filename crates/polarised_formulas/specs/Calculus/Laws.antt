@@ -54,7 +54,8 @@ module _ (C : RuleCalculus) where
       (step : Step) (n : ℕ) (c : C.SequentOf) (ps : List (LevelledIn C)) → C.IsOfItsLogic c
       → C.premises_of step n c ≡ Some ps → AreOfItsLogic C ps
 
-  -- the root of a closed goal of the logic is in scope at level 0, and its formulas are of the logic
+  -- the root of a closed goal of the logic is in scope at level 0, and its formulas are of the
+  -- logic
   abbrev pub RootIsInScope : Type 0
   RootIsInScope =
       (f : Formula) → IsClosed f → IsOfLogic C.logic f

@@ -1,5 +1,5 @@
--- Play: steps in preorder replace the first of a list of sequents by the premises of the instance that
--- they name.
+-- Play: steps in preorder replace the first of a list of sequents by the premises of the instance
+-- that they name.
 use Rattle.std.specs.Prelude.{◌≡◌, ℕ, List, [], ◌∷◌, ◌++◌, Some}
 use Rattle.polarised_formulas.specs.declared.step.Step.{Step}
 use Rattle.polarised_formulas.specs.Formula.{Formula}
