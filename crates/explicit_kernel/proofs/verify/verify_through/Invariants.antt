@@ -8,7 +8,7 @@ use Rattle.explicit_kernel.proofs.verify.verify_through.Given as goal
 
 abbrev pub invariant-loop-names : goal.invariant-loop-names
 invariant-loop-names g l =
-    ((front : List ℕ) × (TakesFront (g.S.Source.left l.initial.source) front (g.S.Source.left l.source) × (HasCome l.names l.goal front l.check × ((g.S.Source.calls l.source ≤ g.S.Source.calls l.initial.source + length front) × AddsOnly (IsPartOf front) l.initial.names l.names))))
+    ((front : List ℕ) × (TakesFront (g.S.Source.left l.initial.source) front (g.S.Source.left l.source) × (HasCome g.P.Pending.calculus l.names l.goal front l.check.reader (g.P.Pending.sequents_of l.check.play.pending) l.check.play.fitted × ((g.S.Source.calls l.source ≤ g.S.Source.calls l.initial.source + length front) × AddsOnly (IsPartOf front) l.initial.names l.names))))
     × Grows l.initial.names l.names
     × (l.steps ≡ l.initial.steps + l.check.play.fitted)
     × (g.S.Source.faults l.source ≡ g.S.Source.faults l.initial.source)
