@@ -63,17 +63,17 @@ fits-some step n c q (Some ps) e h = (ps ++ q, plays e)
 fits-some step n c q None e h = cc
 
 -- where memory may run out at a sequent it may at the list that begins with it
-runs_out-at : (step : Step) (n : ℕ) (c : Sequent) (q : List Levelled) → MayRunOut step (premises_of step n c) → MayRunOutAt step ((n, c) ∷ q)
+runs_out-at : (step : Step) (n : ℕ) (c : Sequent) (q : List Levelled) → MayRunOut step (premises_of step n c) → MayRunOutAt lkf step ((n, c) ∷ q)
 runs_out-at (Cut b) n c q h = λ e. let no : ⊥ = cc in no
 runs_out-at step n c q h = fits-some step n c q (premises_of step n c) refl h
 
 -- and where a step plays a list
-pub runs_out-plays : (step : Step) (q r : List Levelled) → PlaysOne q step r → MayRunOutAt step q
+pub runs_out-plays : (step : Step) (q r : List Levelled) → PlaysOne q step r → MayRunOutAt lkf step q
 runs_out-plays (Cut b) q r one = λ e. PlaysOne-empty lkf (Cut b) r (subst (λ p. PlaysOne p (Cut b) r) e one)
 runs_out-plays step q r one = (r, one)
 
 -- where the answer is that memory ran out, it may
-pub runs_out-names : (step : Step) (r : Result Effect StepRefusal) (q : List Levelled) → Names step r q → r ≡ Err OutOfMemory → MayRunOutAt step q
+pub runs_out-names : (step : Step) (r : Result Effect StepRefusal) (q : List Levelled) → Names step r q → r ≡ Err OutOfMemory → MayRunOutAt lkf step q
 runs_out-names step (Ok e) q h is = cc
 runs_out-names step (Err DoesNotFit) q h is = cc
 runs_out-names step (Err OutOfMemory) q h is = h

@@ -3,8 +3,9 @@ pub mod Shared
 pub mod Naming
 pub mod Pending
 pub mod Progress
-pub mod Check
-pub mod Verdict
 pub mod JudgmentIn
 pub mod Judgment
+pub mod VerdictIn
+pub mod Verdict
+pub mod Check
 pub mod JudgmentLaws

@@ -5,6 +5,7 @@ use Rattle.lkf_rules.specs.declared.rules.effect.Effect.{Effect}
 use Rattle.lkf_rules.specs.declared.rules.outcome.StepRefusal.{StepRefusal}
 use Rattle.lkf_rules.specs.declared.rules.outcome.StepRefusal.TheVariants.{DoesNotFit, OutOfMemory}
 use Rattle.lkf_rules.specs.Sequent.{Levelled}
+use Rattle.lkf_rules.specs.Lkf.{lkf}
 use Rattle.lkf_rules.specs.Premises.{premises_of}
 use Rattle.lkf_rules.specs.Play.{PlaysOne}
 use Rattle.lkf_rules.specs.Values.{MayRunOut}
@@ -23,4 +24,4 @@ TellsAt step (Err OutOfMemory) p = MayRunOut step (premises_of step p.0 p.1)
 abbrev pub Names : Step → Result Effect StepRefusal → List Levelled → Type 0
 Names step (Ok e) q = PlaysOne q step (played e q)
 Names step (Err DoesNotFit) q = (r : List Levelled) → PlaysOne q step r → ⊥
-Names step (Err OutOfMemory) q = MayRunOutAt step q
+Names step (Err OutOfMemory) q = MayRunOutAt lkf step q

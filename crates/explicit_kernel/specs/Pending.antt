@@ -1,8 +1,7 @@
 -- Sequents with their levels, as they are stored.
-use Rattle.std.specs.Prelude.{◌≡◌, ℕ, ◌≤◌, List, ◌⊎◌, refl}
+use Rattle.std.specs.Prelude.{◌≡◌, List, ◌⊎◌, refl}
 use Rattle.std.proofs.Common.{inl, inr}
 use Rattle.std.specs.Coded.{Coded, code_by, coded_list, coded×, coded⊎, coded_ℕ}
-use Rattle.std.specs.List.{AllByRecursion}
 use Rattle.polarised_formulas.specs.Formula.{Formula, formula_code}
 use Rattle.lkf_rules.specs.Sequent.{Sequent, up, down, Levelled}
 
@@ -25,7 +24,3 @@ sequent_of_parts-parts_of_sequent (down s f) = refl
 abbrev pub levelled_code : Coded Levelled
 levelled_code =
     coded× coded_ℕ (code_by Parts (coded⊎ (coded× (coded_list formula_code) (coded_list formula_code)) (coded× (coded_list formula_code) formula_code)) parts_of_sequent sequent_of_parts sequent_of_parts-parts_of_sequent)
-
--- the levels are at most n
-abbrev pub AreLow : ℕ → List Levelled → Type 0
-AreLow n q = AllByRecursion (λ p. p.0 ≤ n) q

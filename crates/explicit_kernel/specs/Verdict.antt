@@ -1,54 +1,30 @@
--- What `verify` answers, by the bytes that it took.
-use Rattle.std.specs.Prelude.{◌≡◌, ◌⊎◌, ℕ, ◌+◌, ◌≤◌, List, ◌++◌, length, Option, Result, Ok, Err}
-use Rattle.fpc_base.specs.Outside.{Rose, TakesFront, IsAtEnd}
-use Rattle.fpc_terms.specs.Name.{Agrees}
+-- What `verify` answers, by the bytes that it took: what the check in any calculus answers, at LKF.
+use Rattle.std.specs.Prelude.{◌≡◌, ℕ, List, Option, Result}
+use Rattle.fpc_base.specs.Outside.{Rose, TakesFront}
 use Rattle.fpc_terms.specs.Adding.{AddsOnly}
 use Rattle.polarised_formulas.specs.Adding.{IsPartOf}
 use Rattle.polarised_formulas.specs.Formula.{Formula}
-use Rattle.lkf_rules.specs.Sequent.{Levelled}
-use Rattle.lkf_rules.specs.Derivation.{IsDerivable}
-use Rattle.explicit_form.specs.StepReading.{State}
-use Rattle.explicit_kernel.specs.Progress.{HasSpelling}
-use Rattle.explicit_kernel.specs.Judgment.{Course, going, judged, accepted, rejected, refused, course_of, at_end}
+use Rattle.lkf_rules.specs.Lkf.{lkf}
+use Rattle.explicit_kernel.specs.VerdictIn.{IsJudged as IsJudgedIn, HasFitted as HasFittedIn, IsRight as IsRightIn}
+pub use Rattle.explicit_kernel.specs.VerdictIn.{most_ahead, IsShown}
 use Rattle.explicit_kernel.specs.declared.verify.Verdict.{Verdict}
-use Rattle.explicit_kernel.specs.declared.verify.Verdict.TheVariants.{Accepted, Rejected}
 use Rattle.explicit_kernel.specs.declared.verify.VerifyRefusal.{VerifyRefusal}
 use Rattle.explicit_kernel.specs.declared.verify.VerifyRefusal.TheVariants.{Refused, ReadFault, OutOfMemory}
 
--- the most bytes that are taken behind the one that decides
-abbrev pub most_ahead : ℕ
-most_ahead = 65536
-
--- What the bytes taken have shown, their number, what is left of the source, and the ticks of steps before and now tell the answer.
-abbrev pub IsShown : Course → ℕ → Option (List ℕ) → ℕ → ℕ → Result Verdict VerifyRefusal → Type 0
-IsShown c taken left before now (Ok (Accepted n)) = (at_end taken c ≡ accepted n) × IsAtEnd left × (now ≡ before + n)
-IsShown c taken left before now (Ok (Rejected k)) = (place : ℕ) × ((c ≡ judged (rejected k place)) × (taken ≤ place + 1 + most_ahead) × (now + 1 ≡ before + k))
-IsShown c taken left before now (Err (Refused r)) =
-    (fitted : ℕ) × ((at_end taken c ≡ refused r fitted) × (IsAtEnd left ⊎ (c ≡ judged (refused r fitted))) × (taken ≤ r.at + 1 + most_ahead) × (now ≡ before + fitted))
-IsShown c taken left before now (Err ReadFault) = (st : State) × ((q : List Levelled) × ((n : ℕ) × ((c ≡ going st q n) × (now ≡ before + n))))
-IsShown c taken left before now (Err OutOfMemory) = Unit {0}
-
 -- a front of the bytes of a certificate for the goal shows nothing, and so many steps have fitted
 -- in it
-pub record HasFitted (number : List ℕ → ℕ) (goal : Formula) (bytes : List ℕ) (n : ℕ) : Type 0 where
-  pub front : List ℕ
-  pub rest : List ℕ
-  pub parts : front ++ rest ≡ bytes
-  pub read : State
-  pub pending : List Levelled
-  pub shows : course_of number goal front ≡ going read pending n
+abbrev pub HasFitted : (List ℕ → ℕ) → Formula → List ℕ → ℕ → Type 0
+HasFitted number goal bytes n = HasFittedIn lkf number goal bytes n
 
 -- Some bytes were taken from the front of a source, and they show the answer of a certificate for
--- the goal, by each numbering that agrees with the table of names. Where memory ran out, the ticks
--- are of the steps that have fitted. Of a source that doesn't tell what is left any bytes may have
--- been taken.
-pub record IsJudged (names : List (List ℕ)) (goal : Formula) (old new : Option (List ℕ)) (before now : ℕ) (answer : Result Verdict VerifyRefusal) : Type 0 where
-  pub bytes : List ℕ
-  pub taken : TakesFront old bytes new
-  pub shown : (number : List ℕ → ℕ) → Agrees number names
-      → IsShown (course_of number goal bytes) (length bytes) new before now answer
-  pub fitted : answer ≡ Err OutOfMemory → (number : List ℕ → ℕ) → Agrees number names
-      → (n : ℕ) × (HasFitted number goal bytes n × (now ≡ before + n))
+-- the goal.
+abbrev pub IsJudged : List (List ℕ) → Formula → Option (List ℕ) → Option (List ℕ) → ℕ → ℕ
+    → Result Verdict VerifyRefusal → Type 0
+IsJudged names goal old new before now answer = IsJudgedIn lkf names goal old new before now answer
+
+-- a goal that is accepted in so many steps has a spelling of them, and is derivable
+abbrev pub IsRight : Formula → Verdict → Type 0
+IsRight goal verdict = IsRightIn lkf goal verdict
 
 -- some bytes were taken from the front of a source, and each name that came into the table is a
 -- part of them
@@ -56,11 +32,6 @@ pub record AddsRead (old new : Option (List ℕ)) (names more : List (List ℕ))
   pub bytes : List ℕ
   pub taken : TakesFront old bytes new
   pub only : AddsOnly (IsPartOf bytes) names more
-
--- a goal that is accepted in so many steps has a spelling of them, and is derivable
-abbrev pub IsRight : Formula → Verdict → Type 0
-IsRight goal (Accepted n) = HasSpelling goal n × IsDerivable goal
-IsRight goal (Rejected k) = Unit {0}
 
 -- why there is no verdict, by the counts of faults before and now
 abbrev pub HasReason : ℕ → ℕ → VerifyRefusal → Type 0

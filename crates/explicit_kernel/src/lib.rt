@@ -3,6 +3,7 @@
 
 mod check;
 pub mod laws;
+mod lkf;
 mod pending;
 mod play;
 mod shared;

@@ -1,8 +1,8 @@
 //! The steps of a certificate as they come, played against a goal.
 ghost use Rattle.std.specs.Prelude.{◌≡◌, ◌↔◌, List, ◌+◌, ◌-◌, ◌^◌, ◌<◌, ◌≤◌, ◌≢◌, [], OnOk, OnErr, IfOk, Err};
-ghost use Rattle.lkf_rules.specs.Sequent.{Levelled};
-ghost use Rattle.lkf_rules.specs.Play.{PlaysOne, start_of};
-ghost use Rattle.explicit_kernel.specs.Pending.{AreLow};
+ghost use Rattle.polarised_formulas.specs.Calculus.Rules.{LevelledIn};
+ghost use Rattle.polarised_formulas.specs.Calculus.Lawful.{AreLow};
+ghost use Rattle.polarised_formulas.specs.Calculus.Play.{PlaysOne, start_of};
 ghost use Rattle.explicit_kernel.specs.Progress.{Follows, IsUnfit, IsShort, MayRunOutAt};
 
 use crate::pending::Pending;
@@ -16,20 +16,21 @@ use std::sync::ledger::Ledger;
 
 /// The sequents still to be derived, and how many steps have fitted so far.
 #[derive(Drop)]
-pub(crate) struct Play {
-    pub(crate) pending: Pending,
+pub(crate) struct Play<P> {
+    pub(crate) pending: P,
     pub(crate) fitted: u64,
 }
 
-impl Play {
+impl<P: Pending> Play<P> {
     /// Nothing is played yet.
-    pub(crate) fn start(alloc: Global, goal: &Formula) -> Result<Play, OutOfMemory>
-        ensures pending { IfOk result (λ p. p.pending ≡ start_of goal.now) }
+    pub(crate) fn start(alloc: Global, goal: &Formula) -> Result<Play<P>, OutOfMemory>
+        ensures pending { IfOk result
+            (λ p. P.sequents_of p.pending ≡ start_of P.calculus goal.now) }
         ensures fitted { IfOk result (λ p. p.fitted ≡ 0) }
-        ensures low { IfOk result (λ p. AreLow p.fitted p.pending) }
+        ensures low { IfOk result (λ p. AreLow P.calculus p.fitted (P.sequents_of p.pending)) }
     {
         Ok(Play {
-            pending: Pending::start(alloc, goal)?,
+            pending: P::start(alloc, goal)?,
             fitted: 0,
         })
     }
@@ -41,14 +42,21 @@ impl Play {
         step: &Step,
         steps: &mut Steps<L>,
     ) -> Result<(), StepRefusal>
-        requires low { AreLow self.old.fitted self.old.pending }
+        requires low { AreLow P.calculus self.old.fitted (P.sequents_of self.old.pending) }
         requires few { self.old.fitted < 2 ^ 32 }
-        ensures fits { OnOk result (PlaysOne self.old.pending step.now self.new.pending) }
-        ensures low { OnOk result (AreLow self.new.fitted self.new.pending) }
+        ensures fits { OnOk result
+            (PlaysOne P.calculus (P.sequents_of self.old.pending) step.now
+            (P.sequents_of self.new.pending)) }
+        ensures low { OnOk result
+            (AreLow P.calculus self.new.fitted (P.sequents_of self.new.pending)) }
         ensures one { OnOk result (self.new.fitted ≡ self.old.fitted + 1) }
         ensures ticks { OnOk result (steps.new ≡ steps.old + 1) }
-        ensures unfit { result ≡ Err StepRefusal.DoesNotFit ↔ ((r : List Levelled) → PlaysOne self.old.pending step.now r → ⊥) × (result ≢ Err StepRefusal.OutOfMemory) }
-        ensures memory { result ≡ Err StepRefusal.OutOfMemory → MayRunOutAt step.now self.old.pending }
+        ensures unfit { result ≡ Err StepRefusal.DoesNotFit ↔
+            ((r : List (LevelledIn P.calculus))
+            → PlaysOne P.calculus (P.sequents_of self.old.pending) step.now r → ⊥)
+            × (result ≢ Err StepRefusal.OutOfMemory) }
+        ensures memory { result ≡ Err StepRefusal.OutOfMemory
+            → MayRunOutAt P.calculus step.now (P.sequents_of self.old.pending) }
         ensures none { OnErr result (self.new.fitted ≡ self.old.fitted) }
         ensures no_tick { OnErr result (steps.new ≡ steps.old) }
     {
@@ -69,13 +77,18 @@ impl Play {
         step: Option<Step>,
         steps: &mut Steps<L>,
     ) -> Result<(), StepRefusal>
-        requires low { AreLow self.old.fitted self.old.pending }
+        requires low { AreLow P.calculus self.old.fitted (P.sequents_of self.old.pending) }
         requires few { self.old.fitted < 2 ^ 32 }
-        ensures follows { OnOk result (Follows step self.old self.new) }
-        ensures low { OnOk result (AreLow self.new.fitted self.new.pending) }
+        ensures follows { OnOk result (Follows P.calculus step
+            (P.sequents_of self.old.pending) self.old.fitted
+            (P.sequents_of self.new.pending) self.new.fitted) }
+        ensures low { OnOk result
+            (AreLow P.calculus self.new.fitted (P.sequents_of self.new.pending)) }
         ensures one { self.new.fitted ≤ self.old.fitted + 1 }
-        ensures unfit { result ≡ Err StepRefusal.DoesNotFit → IsUnfit step self.old }
-        ensures memory { result ≡ Err StepRefusal.OutOfMemory → IsShort step self.old }
+        ensures unfit { result ≡ Err StepRefusal.DoesNotFit
+            → IsUnfit P.calculus step (P.sequents_of self.old.pending) }
+        ensures memory { result ≡ Err StepRefusal.OutOfMemory
+            → IsShort P.calculus step (P.sequents_of self.old.pending) }
         ensures none { OnErr result (self.new.fitted ≡ self.old.fitted) }
         ensures ticks { steps.new + self.old.fitted ≡ steps.old + self.new.fitted }
     {

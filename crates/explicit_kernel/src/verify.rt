@@ -4,9 +4,12 @@ ghost use Rattle.fpc_terms.specs.Name.{Grows};
 ghost use Rattle.polarised_formulas.specs.Formula.{IsClosed, IsLkf};
 ghost use Rattle.polarised_formulas.specs.declared.logic.Logic.TheVariants.{Lkf};
 ghost use Rattle.explicit_kernel.specs.Check.{IsAnswerTo};
+ghost use Rattle.explicit_kernel.specs.VerdictIn.{IsJudged as IsJudgedIn};
 ghost use Rattle.explicit_kernel.specs.Verdict.{IsJudged, IsRight, HasReason, AddsRead};
 
 use crate::check::{Check, Stop};
+use crate::lkf::LkfPending;
+use crate::pending::Pending;
 use fpc_base::outside::{Failed, Source};
 use fpc_base::refusal::Refusal;
 use fpc_base::steps::Steps;
@@ -50,7 +53,7 @@ fn answer_to(stop: Stop) -> Result<Verdict, VerifyRefusal>
 }
 
 /// Checks the certificate that a source holds, by way of a buffer.
-fn verify_through<S: Source, L: Ledger>(
+fn verify_through<P: Pending, S: Source, L: Ledger>(
     alloc: Global,
     names: &mut Names,
     goal: &Formula,
@@ -59,11 +62,10 @@ fn verify_through<S: Source, L: Ledger>(
     steps: &mut Steps<L>,
 ) -> Result<Verdict, VerifyRefusal>
     requires buffer { length buffer.old ≡ PIECE }
-    ensures judged { IsJudged names.new goal.now (S.outside source.old).left
-        (S.outside source.new).left steps.old steps.new result }
+    ensures judged { IsJudgedIn P.calculus names.new goal.now
+        (S.outside source.old).left (S.outside source.new).left steps.old steps.new result }
     ensures count { OnOk result ((S.outside source.new).faults ≡ (S.outside source.old).faults) }
-    ensures reason { IfErr result (HasReason (S.outside source.old).faults
-        (S.outside source.new).faults) }
+    ensures reason { IfErr result (HasReason (S.outside source.old).faults (S.outside source.new).faults) }
     ensures never_falls { (S.outside source.old).faults ≤ (S.outside source.new).faults }
     ensures content { (S.outside source.new).content ≡ (S.outside source.old).content }
     ensures opened { (S.outside source.new).opened ≡ (S.outside source.old).opened }
@@ -71,7 +73,7 @@ fn verify_through<S: Source, L: Ledger>(
     ensures grows { Grows names.old names.new }
     ensures only { AddsRead (S.outside source.old).left (S.outside source.new).left names.old names.new }
 {
-    let mut check = match Check::start(alloc, goal) {
+    let mut check = match Check::<P>::start(alloc, goal) {
         Ok(check) => check,
         Err(_) => return Err(VerifyRefusal::OutOfMemory),
     };
@@ -129,7 +131,7 @@ pub fn verify<S: Source, L: Ledger>(
         Ok(buffer) => buffer,
         Err(_) => return Err(VerifyRefusal::OutOfMemory),
     };
-    let verdict = verify_through(
+    let verdict = verify_through::<LkfPending, S, L>(
         alloc,
         names,
         &problem.goal,

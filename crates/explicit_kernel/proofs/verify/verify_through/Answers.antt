@@ -9,7 +9,7 @@ use Rattle.explicit_kernel.proofs.Judging.{judged-memory, judged-fault, judged-a
 use Rattle.explicit_kernel.proofs.verify.verify_through.Goals as goal
 
 pub returns-in-Err-clause-judged : goal.returns-in-Err-clause-judged
-returns-in-Err-clause-judged g c = judged-memory c.args.names.now c.args.goal.now (g.S.Source.outside c.args.source.now).left c.args.steps.now
+returns-in-Err-clause-judged g c = judged-memory g.P.Pending.calculus c.args.names.now c.args.goal.now (g.S.Source.outside c.args.source.now).left c.args.steps.now
 
 pub loop-names-init : goal.loop-names-init
 loop-names-init g c = (
@@ -24,7 +24,7 @@ loop-names-init g c = (
 pub returns-in-Ok-finish-clause-judged : goal.returns-in-Ok-finish-clause-judged
 returns-in-Ok-finish-clause-judged g c =
     let r = c.loop-names.invariant.0 in
-    judged-accepted c.loop-names.names c.args.goal.now (g.S.Source.outside c.args.source.now).left (g.S.Source.outside c.loop-names.source).left (g.S.Source.outside c.read.new.self).left c.args.steps.now c.loop-names.steps r.0 c.loop-names.check r.1.0 r.1.1.0
+    judged-accepted g.P.Pending.calculus c.loop-names.names c.args.goal.now (g.S.Source.outside c.args.source.now).left (g.S.Source.outside c.loop-names.source).left (g.S.Source.outside c.read.new.self).left c.args.steps.now c.loop-names.steps r.0 c.loop-names.check.reader (g.P.Pending.sequents_of c.loop-names.check.play.pending) c.loop-names.check.play.fitted r.1.0 r.1.1.0
     c.loop-names.invariant.2 (c.in-Ok-eq0.ensures.end c.in-Ok-eq0.field-0-test)
     (subst (λ n. TakesFront (g.S.Source.outside c.loop-names.source).left (take n c.read.new.buf) (g.S.Source.outside c.read.new.self).left) c.in-Ok-eq0.field-0-test c.in-Ok-eq0.ensures.taken)
     c.in-Ok-finish.steps (c.in-Ok-finish.ensures c.loop-names.names c.args.goal.now r.0 c.distinct.ensures r.1.1.0)
@@ -32,7 +32,7 @@ returns-in-Ok-finish-clause-judged g c =
 pub returns-in-Err-finish-clause-judged : goal.returns-in-Err-finish-clause-judged
 returns-in-Err-finish-clause-judged g c =
     let r = c.loop-names.invariant.0 in
-    judged-unfinished c.loop-names.names c.args.goal.now (g.S.Source.outside c.args.source.now).left (g.S.Source.outside c.loop-names.source).left (g.S.Source.outside c.read.new.self).left c.args.steps.now c.loop-names.steps r.0 c.loop-names.check r.1.0 r.1.1.0
+    judged-unfinished g.P.Pending.calculus c.loop-names.names c.args.goal.now (g.S.Source.outside c.args.source.now).left (g.S.Source.outside c.loop-names.source).left (g.S.Source.outside c.read.new.self).left c.args.steps.now c.loop-names.steps r.0 c.loop-names.check.reader (g.P.Pending.sequents_of c.loop-names.check.play.pending) c.loop-names.check.play.fitted r.1.0 r.1.1.0
     c.loop-names.invariant.2 (c.in-Ok-eq0.ensures.end c.in-Ok-eq0.field-0-test)
     (subst (λ n. TakesFront (g.S.Source.outside c.loop-names.source).left (take n c.read.new.buf) (g.S.Source.outside c.read.new.self).left) c.in-Ok-eq0.field-0-test c.in-Ok-eq0.ensures.taken)
     c.in-Err-finish.stop c.answer_to.result (c.in-Err-finish.ensures c.loop-names.names c.args.goal.now r.0 c.distinct.ensures r.1.1.0) c.answer_to.ensures
@@ -76,8 +76,8 @@ loop-names-preserved g c =
 pub returns-in-Err-take_piece-clause-judged : goal.returns-in-Err-take_piece-clause-judged
 returns-in-Err-take_piece-clause-judged g c =
     let r = c.loop-names.invariant.0 in
-    judged-stop c.take_piece.new.names c.args.goal.now (g.S.Source.outside c.args.source.now).left (g.S.Source.outside c.loop-names.source).left (g.S.Source.outside c.read.new.self).left c.args.steps.now c.take_piece.new.steps r.0 c.split_at.result.0.now
-    c.take_piece.new.self c.in-Err-take_piece.stop c.answer_to-in-Err-take_piece.result r.1.0
+    judged-stop g.P.Pending.calculus c.take_piece.new.names c.args.goal.now (g.S.Source.outside c.args.source.now).left (g.S.Source.outside c.loop-names.source).left (g.S.Source.outside c.read.new.self).left c.args.steps.now c.take_piece.new.steps r.0 c.split_at.result.0.now
+    c.take_piece.new.self.play.fitted c.in-Err-take_piece.stop c.answer_to-in-Err-take_piece.result r.1.0
     (subst (λ bs. TakesFront (g.S.Source.outside c.loop-names.source).left bs (g.S.Source.outside c.read.new.self).left) (sym c.split_at.ensures.front) c.in-Ok-read.ensures.taken)
     (omega (arith, c.split_at.ensures.front_len, c.in-Ok-read.ensures.within, c.read.auto.buf, c.loop-names.auto.buffer, c.requires.buffer)) (omega (arith, c.in-Err-take_piece.ensures.ticks, c.loop-names.invariant.2))
     (c.in-Err-take_piece.ensures.stopped c.args.goal.now r.0 r.1.1.0) c.answer_to-in-Err-take_piece.ensures
@@ -85,7 +85,7 @@ returns-in-Err-take_piece-clause-judged g c =
 pub returns-in-Err-read-clause-judged : goal.returns-in-Err-read-clause-judged
 returns-in-Err-read-clause-judged g c =
     let r = c.loop-names.invariant.0 in
-    judged-fault c.loop-names.names c.args.goal.now (g.S.Source.outside c.args.source.now).left (g.S.Source.outside c.loop-names.source).left (g.S.Source.outside c.read.new.self).left c.args.steps.now c.loop-names.steps r.0 c.loop-names.check r.1.0 r.1.1.0
+    judged-fault g.P.Pending.calculus c.loop-names.names c.args.goal.now (g.S.Source.outside c.args.source.now).left (g.S.Source.outside c.loop-names.source).left (g.S.Source.outside c.read.new.self).left c.args.steps.now c.loop-names.steps r.0 c.loop-names.check.reader (g.P.Pending.sequents_of c.loop-names.check.play.pending) c.loop-names.check.play.fitted r.1.0 r.1.1.0
     c.loop-names.invariant.2 c.in-Err-read.ensures.none_taken
 
 pub returns-in-Err-clause-only : goal.returns-in-Err-clause-only

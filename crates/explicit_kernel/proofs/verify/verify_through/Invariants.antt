@@ -8,7 +8,7 @@ use Rattle.explicit_kernel.proofs.verify.verify_through.Given as goal
 
 abbrev pub invariant-loop-names : goal.invariant-loop-names
 invariant-loop-names g l =
-    ((front : List ℕ) × (TakesFront (g.S.Source.outside l.initial.source).left front (g.S.Source.outside l.source).left × (HasCome l.names l.goal front l.check × (((g.S.Source.outside l.source).calls ≤ (g.S.Source.outside l.initial.source).calls + length front) × AddsOnly (IsPartOf front) l.initial.names l.names))))
+    ((front : List ℕ) × (TakesFront (g.S.Source.outside l.initial.source).left front (g.S.Source.outside l.source).left × (HasCome g.P.Pending.calculus l.names l.goal front l.check.reader (g.P.Pending.sequents_of l.check.play.pending) l.check.play.fitted × (((g.S.Source.outside l.source).calls ≤ (g.S.Source.outside l.initial.source).calls + length front) × AddsOnly (IsPartOf front) l.initial.names l.names))))
     × Grows l.initial.names l.names
     × (l.steps ≡ l.initial.steps + l.check.play.fitted)
     × ((g.S.Source.outside l.source).faults ≡ (g.S.Source.outside l.initial.source).faults)

@@ -14,7 +14,7 @@ loop-fed-preserved g c = (
   λ k text h. c.in-Ok.ensures.grows k text (c.loop-fed.invariant.0 k text h),
   omega (arith, c.in-Ok.ensures.within, c.loop-fed.invariant.1),
   λ goal before come.
-      come-taken c.take_line.new.names goal before c.args.piece.now c.loop-fed.fed c.in-Ok.n c.take_line.new.self
+      come-taken g.P.Pending.calculus c.take_line.new.names goal before c.args.piece.now c.loop-fed.fed c.in-Ok.n c.take_line.new.self.reader (g.P.Pending.sequents_of c.take_line.new.self.play.pending) c.take_line.new.self.play.fitted
       (c.in-Ok.ensures.taken goal (before ++ take c.loop-fed.fed c.args.piece.now) (c.loop-fed.invariant.2 goal before come)),
   omega (arith, c.in-Ok.ensures.ticks, c.loop-fed.invariant.3),
   λ goal before come.
@@ -27,12 +27,12 @@ returns-in-Err-clause-stopped g c = λ goal before come.
     let piece = c.args.piece.now in
     let fed = c.loop-fed.fed in
     let l = length-append before (take fed piece) in
-    stopped-from c.take_line.new.names goal (length (before ++ take fed piece)) (length before) ((before ++ take fed piece) ++ take (length piece - fed) (drop fed piece)) (before ++ piece) c.take_line.new.self c.in-Err.stop (omega (arith, l))
+    stopped-from g.P.Pending.calculus c.take_line.new.names goal (length (before ++ take fed piece)) (length before) ((before ++ take fed piece) ++ take (length piece - fed) (drop fed piece)) (before ++ piece) c.take_line.new.self.play.fitted c.in-Err.stop (omega (arith, l))
     (whole-is before piece fed) (c.in-Err.ensures.taken goal (before ++ take fed piece) (c.loop-fed.invariant.2 goal before come))
 
 pub returns-clause-come : goal.returns-clause-come
 returns-clause-come g c = λ goal before come.
-    subst (λ bs. HasCome c.loop-fed.names goal (before ++ bs) c.loop-fed.self) (take_all c.loop-fed.fed c.args.piece.now (omega (arith, c.loop-fed-test.false))) (c.loop-fed.invariant.2 goal before come)
+    subst (λ bs. HasCome g.P.Pending.calculus c.loop-fed.names goal (before ++ bs) c.loop-fed.self.reader (g.P.Pending.sequents_of c.loop-fed.self.play.pending) c.loop-fed.self.play.fitted) (take_all c.loop-fed.fed c.args.piece.now (omega (arith, c.loop-fed-test.false))) (c.loop-fed.invariant.2 goal before come)
 
 pub returns-in-Err-clause-only : goal.returns-in-Err-clause-only
 returns-in-Err-clause-only g c = λ goal before come.
