@@ -1,5 +1,5 @@
 //! The rules of LKF: the premises that a step names at a sequent.
-ghost use Rattle.std.specs.Prelude.{◌≡◌, ◌≢◌, ◌↔◌, List, [], ◌<◌, ◌-◌, ◌^◌, Some, None, IfOk, Err};
+ghost use Rattle.std.specs.Prelude.{◌≡◌, ◌≢◌, ◌↔◌, List, [], ◌<◌, ◌-◌, ◌^◌, Some, None, IfOk, IfErr, OnErr, Err, slice_get};
 ghost use Rattle.lkf_rules.specs.Sequent.{root_of, Levelled, IsInScope};
 ghost use Rattle.polarised_formulas.specs.Formula.{Formula};
 ghost use Rattle.lkf_rules.specs.Premises.{premises_of, worked, chosen, focused};
@@ -7,29 +7,32 @@ ghost use Rattle.lkf_rules.specs.Effect.{Tells, TellsTo};
 ghost use Rattle.lkf_rules.specs.Instance.{IsInstance};
 ghost use Rattle.lkf_rules.specs.Values.{levelled, premise_list, Answers, MayRunOut};
 
-mod choice;
 pub mod effect;
-mod negative;
 pub mod outcome;
-mod positive;
 pub mod storable;
 
 use crate::sequent::Sequent;
-use choice::{cut, decide};
 use effect::Effect;
 use fpc_base::outside::OutOfMemory;
-use negative::{and_negative, every, or_negative, store};
-use outcome::{Premises, StepRefusal, only};
+use fpc_terms::cell::Cell;
+use fpc_terms::term::TermBuf;
+use outcome::{Premises, StepRefusal, fits, only};
+use polarised_formulas::dual::{dual, is_dual};
 use polarised_formulas::formula::Formula;
 use polarised_formulas::list::Formulas;
 use polarised_formulas::logic::Polarity::{Negative, Positive};
+use polarised_formulas::logic::{Logic, Side};
 use polarised_formulas::node::Node;
-use polarised_formulas::shape::outermost;
+use polarised_formulas::opening::open_with;
+use polarised_formulas::parts::parts;
+use polarised_formulas::scope::{is_in_scope, may_be_cut};
+use polarised_formulas::shape::{outermost, polarity};
 use polarised_formulas::step::Step;
-use positive::{and_positive, initial, or_positive, release, some};
 use std::alloc::Global;
+use storable::is_storable;
 
-/// The root sequent of a goal, at level 0: nothing is stored, and the goal is worked on. Time and memory are linear in the goal's size.
+/// The root sequent of a goal, at level 0: nothing is stored, and the goal is worked on. Time and
+/// memory are linear in the goal's size.
 pub fn root(alloc: Global, goal: &Formula) -> Result<Sequent, OutOfMemory>
     ensures { IfOk result (λ c. levelled c ≡ (0, root_of goal.now)) }
 {
@@ -40,9 +43,21 @@ pub fn root(alloc: Global, goal: &Formula) -> Result<Sequent, OutOfMemory>
     })
 }
 
-/// The rules of the negative phase, each with the step and the outermost node of the first worked formula that it asks for. Time and memory are
-/// linear in the formula's size.
-#[tactic(auto, using(crate::proofs::StepFacts::answer_facts))]
+/// The stored formula at a place; without one the step does not fit.
+fn stored_at(stored: &[Formula], k: u64) -> Result<&Formula, StepRefusal>
+    ensures some { IfOk result (λ f. slice_get stored.now k ≡ Some f.now) }
+    ensures none { OnErr result (slice_get stored.now k ≡ None) }
+    ensures unfit { IfErr result (λ e. e ≡ StepRefusal.DoesNotFit) }
+{
+    if k >= stored.len() as u64 {
+        return Err(StepRefusal::DoesNotFit);
+    }
+    Ok(&stored[k as usize])
+}
+
+/// The rules of the negative phase, each with the step and the outermost node of the first worked
+/// formula that it asks for, and what it does. Time and memory are linear in the formula's size.
+#[tactic(auto, using(crate::proofs::StepFacts::step_facts))]
 pub fn on_first(
     alloc: Global,
     level: u64,
@@ -54,16 +69,30 @@ pub fn on_first(
     match (step, outermost(first)) {
         (Step::TrueN, Node::True(Negative)) => Ok(Effect::Close),
         (Step::FalseN, Node::False(Negative)) => Ok(Effect::Pass),
-        (Step::OrN, Node::Or(Negative)) => or_negative(alloc, level, first),
-        (Step::AndN, Node::And(Negative)) => and_negative(alloc, level, first),
-        (Step::Every, Node::ForAll) => every(alloc, level, first),
-        (Step::Store, _) => store(level, first),
+        (Step::OrN, Node::Or(Negative)) => {
+            let (a, b) = parts(alloc, first)?;
+            Ok(Effect::WorkBoth(a, b))
+        }
+        (Step::AndN, Node::And(Negative)) => {
+            let (a, b) = parts(alloc, first)?;
+            Ok(Effect::Split(a, b))
+        }
+        // The eigenvariable is fresh: those of the sequent are below the level.
+        (Step::Every, Node::ForAll) => {
+            let eigenvariable = TermBuf::from_cells(alloc, &[Cell::Eigen(level)])?;
+            Ok(Effect::Raise(open_with(alloc, first, &eigenvariable)?))
+        }
+        (Step::Store, _) => {
+            fits(is_storable(first))?;
+            Ok(Effect::Store(first.copy()?))
+        }
         _ => Err(StepRefusal::DoesNotFit),
     }
 }
 
-/// The rules at a sequent with nothing left to work on. Time and memory are linear in the size of the formula that the step chooses.
-#[tactic(auto, using(crate::proofs::StepFacts::answer_facts))]
+/// The rules at a sequent with nothing left to work on. Time and memory are linear in the size of
+/// the formula that the step chooses.
+#[tactic(auto, using(crate::proofs::StepFacts::cut_facts))]
 pub fn on_nothing(
     alloc: Global,
     level: u64,
@@ -73,15 +102,23 @@ pub fn on_nothing(
     ensures { TellsTo step.now result level stored.now [] (chosen step.now level stored.now) }
 {
     match step {
-        Step::Decide(k) => decide(level, stored, *k),
-        Step::Cut(b) => cut(alloc, level, b),
+        Step::Decide(k) => {
+            let chosen = stored_at(stored, *k)?;
+            fits(polarity(chosen) == Positive)?;
+            Ok(Effect::Focus(chosen.copy()?))
+        }
+        Step::Cut(b) => {
+            fits(may_be_cut(alloc, Logic::Lkf, b, level)?)?;
+            Ok(Effect::Split(b.copy()?, dual(alloc, b)?))
+        }
         _ => Err(StepRefusal::DoesNotFit),
     }
 }
 
-/// The rules of the positive phase, each with the step and the outermost node of the formula under focus that it asks for. Time and memory are linear in
-/// the sizes of the formula and of the step's term.
-#[tactic(auto, using(crate::proofs::StepFacts::answer_facts))]
+/// The rules of the positive phase, each with the step and the outermost node of the formula under
+/// focus that it asks for, and what it does. Time and memory are linear in the sizes of the formula
+/// and of the step's term.
+#[tactic(auto, using(crate::proofs::StepFacts::step_facts, crate::proofs::InitialFacts::initial_facts))]
 pub fn on_focus(
     alloc: Global,
     level: u64,
@@ -93,11 +130,29 @@ pub fn on_focus(
 {
     match (step, outermost(focus)) {
         (Step::TrueP, Node::True(Positive)) => Ok(Effect::Close),
-        (Step::AndP, Node::And(Positive)) => and_positive(alloc, level, focus),
-        (Step::OrP(side), Node::Or(Positive)) => or_positive(alloc, level, focus, *side),
-        (Step::Exists(t), Node::Exists) => some(alloc, level, focus, t),
-        (Step::Release, _) => release(level, focus),
-        (Step::Init(k), Node::Atom { positive: true, .. }) => initial(level, stored, focus, *k),
+        (Step::AndP, Node::And(Positive)) => {
+            let (a, b) = parts(alloc, focus)?;
+            Ok(Effect::FocusEach(a, b))
+        }
+        (Step::OrP(side), Node::Or(Positive)) => {
+            let (a, b) = parts(alloc, focus)?;
+            match side {
+                Side::Left => Ok(Effect::Focus(a)),
+                Side::Right => Ok(Effect::Focus(b)),
+            }
+        }
+        (Step::Exists(t), Node::Exists) => {
+            fits(is_in_scope(t, level))?;
+            Ok(Effect::Focus(open_with(alloc, focus, t)?))
+        }
+        (Step::Release, _) => {
+            fits(polarity(focus) == Negative)?;
+            Ok(Effect::Work(focus.copy()?))
+        }
+        (Step::Init(k), Node::Atom { positive: true, .. }) => {
+            fits(is_dual(focus, stored_at(stored, *k)?))?;
+            Ok(Effect::Close)
+        }
         _ => Err(StepRefusal::DoesNotFit),
     }
 }

@@ -1,5 +1,5 @@
 //! What a step gives: the premises of the rule that it names, or why there are none.
-ghost use Rattle.std.specs.Prelude.{◌≡◌, [], ◌∷◌, Some, IfOk};
+ghost use Rattle.std.specs.Prelude.{◌≡◌, [], ◌∷◌, true, false, Some, IfOk, IfErr, OnOk, OnErr};
 ghost use Rattle.lkf_rules.specs.Sequent.{up, down};
 ghost use Rattle.lkf_rules.specs.Values.{levelled, Gives};
 
@@ -34,6 +34,19 @@ impl From<outside::OutOfMemory> for StepRefusal {
 
     fn from(_e: outside::OutOfMemory) -> StepRefusal {
         StepRefusal::OutOfMemory
+    }
+}
+
+/// A step fits only where this holds.
+pub(crate) fn fits(holds: bool) -> Result<(), StepRefusal>
+    ensures ok { OnOk result (holds ≡ true) }
+    ensures err { OnErr result (holds ≡ false) }
+    ensures unfit { IfErr result (λ e. e ≡ StepRefusal.DoesNotFit) }
+{
+    if holds {
+        Ok(())
+    } else {
+        Err(StepRefusal::DoesNotFit)
     }
 }
 
