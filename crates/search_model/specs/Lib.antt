@@ -4,6 +4,7 @@ pub mod Lawful
 pub mod OpenFormula
 pub mod Table
 pub mod Odd
+pub mod GoalItems
 pub mod Solve
 pub mod EqualityRun
 pub mod Renaming

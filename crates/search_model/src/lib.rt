@@ -2,8 +2,10 @@
 #![tactic(auto)]
 
 mod alternative;
+pub mod calculus;
 mod calls;
 mod comparison;
+pub mod goals;
 pub mod laws;
 pub mod solve;
 mod walk;
