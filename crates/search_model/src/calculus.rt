@@ -6,8 +6,9 @@ ghost use Rattle.clause_language.specs.declared.declaration.DeclaredFormula.{Dec
 ghost use Rattle.clause_language.specs.declared.program.Program.{Program};
 ghost use Rattle.clause_language.specs.Program.{IsOpenProgram};
 ghost use Rattle.search_model.specs.GoalItems.{chosen_in, lists_in, list_over, item_over};
-ghost use Rattle.search_model.specs.Lawful.{IsComplete, IsLawful};
+ghost use Rattle.search_model.specs.Lawful.{IsComplete};
 ghost use Rattle.search_model.specs.Table.{AreSequents, IsTable, Table, calculus_of, derive, level_in};
+ghost use Rattle.search_model.specs.TableLaws.{AreSoundLines};
 
 use crate::goals::{Alternatives, GoalItem, SequentGoal};
 use clause_language::program::Program;
@@ -49,7 +50,7 @@ pub trait Calculus {
         requires level { IfSome (chosen_in item.now) (λ x. level_in x + 1 < 2 ^ 64) }
         requires fresh { fresh + 256 < 2 ^ 64 }
         requires is_open { IfSome (chosen_in item.now) (λ x. (calculus_of (table program.now)).IsOpenItem fresh (item_over (sequent_of program.now) x)) }
-        ensures { IfSome (chosen_in item.now) (λ x. IfOk result (λ r. map (list_over (sequent_of program.now)) (lists_in r) ≡ (table program.now).expand (item_over (sequent_of program.now) x) fresh)) };
+        ensures { IfOk result (λ r. IfSome (chosen_in item.now) (λ x. map (list_over (sequent_of program.now)) (lists_in r) ≡ (table program.now).expand (item_over (sequent_of program.now) x) fresh)) };
 
     /// An equal sequent.
     fn copy(&self, alloc: Global, sequent: &Self::Sequent) -> Result<Self::Sequent, OutOfMemory>
@@ -69,7 +70,7 @@ pub trait Calculus {
 
     ghost tabled: { (p : Program) → IsOpenProgram p → All (λ (d : DeclaredFormula). d.parameters ≤ 255) p.declared → IsTable (table p) };
 
-    ghost lawful: { (p : Program) → IsOpenProgram p → IsLawful (calculus_of (table p)) p.clauses };
+    ghost sound: { (p : Program) → IsOpenProgram p → AreSoundLines (table p) p.clauses };
 
     ghost complete: { (p : Program) → IsOpenProgram p → IsComplete (calculus_of (table p)) p.clauses };
 }

@@ -54,8 +54,8 @@ pub enum GoalItem<S> {
 /// A goal list, with the level of each of its new variables in the order of their numbers.
 #[derive(Drop)]
 pub struct Goals<S> {
-    items: Vec<GoalItem<S>>,
-    levels: Vec<Option<u64>>,
+    pub(crate) items: Vec<GoalItem<S>>,
+    pub(crate) levels: Vec<Option<u64>>,
 }
 
 impl<S: Drop> Goals<S> {
@@ -89,7 +89,7 @@ impl<S: Drop> Goals<S> {
 /// Goal lists.
 #[derive(Drop)]
 pub struct Alternatives<S> {
-    lists: Vec<Goals<S>>,
+    pub(crate) lists: Vec<Goals<S>>,
 }
 
 impl<S: Drop> Alternatives<S> {
