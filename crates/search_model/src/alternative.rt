@@ -182,7 +182,7 @@ pub(crate) fn copied_atom(atom: &Atom) -> Result<Atom, OutOfMemory>
 }
 
 /// Copies of terms.
-fn copied_terms(terms: &Terms) -> Result<Terms, OutOfMemory>
+pub(crate) fn copied_terms(terms: &Terms) -> Result<Terms, OutOfMemory>
     ensures { IfOk result (λ ts. ts ≡ terms.now) }
 {
     Ok(terms.clone()?)

@@ -7,7 +7,7 @@ ghost use Rattle.clause_language.specs.Program.{IsOpenProgram, IsProgram, HasFew
 ghost use Rattle.search_model.specs.Solve.{IsRight, IsSolved, IsWithin, solving};
 ghost use Rattle.search_model.specs.States.{IsFoundAlone};
 
-use crate::alternative::copied_atom;
+use crate::alternative::{copied_atom, copied_terms};
 use crate::clauses_alone::ClausesAlone;
 use crate::goals::GoalItem;
 use crate::search::{Found, plain_search};
@@ -49,8 +49,9 @@ fn search_for(
     requires is_open { AreOpen variables atom.now.arguments }
     ensures { IfOk result (λ found. IsFoundAlone found (solving program.now.clauses budget atom.now variables)) }
 {
-    let goal = GoalItem::Call(copied_atom(atom)?);
-    let asked = atom.arguments.clone()?;
+    let question = copied_atom(atom)?;
+    let asked = copied_terms(&atom.arguments)?;
+    let goal = GoalItem::Call(question);
     plain_search(alloc, &ClausesAlone, program, goal, asked, variables, budget)
 }
 
