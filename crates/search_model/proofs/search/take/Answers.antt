@@ -43,7 +43,9 @@ returns-in_ok-take_sequent-in-Seq-clause-step g c =
 pub returns-in_ok-take_chosen-in_default-clause-step :
     goal.returns-in_ok-take_chosen-in_default-clause-step
 returns-in_ok-take_chosen-in_default-clause-step g c =
-    let a = c.in_default.not-Call in
-    let b = c.in_default.not-Eq in
-    let d = c.in_default.item-is in
-    let e = c.in_ok-take_chosen-in_default.ensures in ?
+    let p = c.args.program.now in
+    let of = g.C.Calculus.sequent_of p in
+    at-same (calculus_of (g.C.Calculus.table p)) p.clauses c.args.units.now _ (alternatives_of of c.take_chosen.new.stack.items)
+    (chosen-taken (g.C.Calculus.table p) of p.clauses (alternative_of of c.args.first) (alternatives_of of c.args.stack.now.items)
+    (alternatives_of of c.take_chosen.new.stack.items) c.args.goal
+    c.in_default.not-Call c.in_default.not-Eq c.in_default.not-Emit c.in_default.not-Seq c.in_ok-take_chosen-in_default.ensures)
