@@ -163,7 +163,7 @@ module _ (T : Table) {S : Type 0} (of : S → T.SequentOf) (clauses : List Claus
       no-goal none = (
         alternative_of of a,
         so_far ∙ ap (raise k) (ap (λ q. running C-of clauses left (search.between q)) (first-is stack below a is)
-        ∙ run-answered C-of clauses left _ (search.accepted (alternative_of of a)) (answered a.goals.items none)) ∙ ap (ended (search.accepted (alternative_of of a))) (omega arith),
+            ∙ run-answered C-of clauses left _ (search.accepted (alternative_of of a)) (answered a.goals.items none)) ∙ ap (ended (search.accepted (alternative_of of a))) (omega arith),
         refl,
         refl,
       )

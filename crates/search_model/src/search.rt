@@ -188,7 +188,14 @@ fn take<C: Calculus>(
 {
     match goal {
         GoalItem::Call(atom) => {
-            push_all_answered(alloc, calculus, program.clauses.items(), &atom, &first, stack)?;
+            push_all_answered(
+                alloc,
+                calculus,
+                program.clauses.items(),
+                &atom,
+                &first,
+                stack,
+            )?;
             Ok(true)
         }
         GoalItem::Eq(left, right) => equate(alloc, calculus, &left, &right, first, stack, units),

@@ -52,7 +52,15 @@ fn search_for(
     let question = copied_atom(atom)?;
     let asked = copied_terms(&atom.arguments)?;
     let goal = GoalItem::Call(question);
-    plain_search(alloc, &ClausesAlone, program, goal, asked, variables, budget)
+    plain_search(
+        alloc,
+        &ClausesAlone,
+        program,
+        goal,
+        asked,
+        variables,
+        budget,
+    )
 }
 
 /// The atom with these arguments, and a constant for each variable in them.
