@@ -25,7 +25,8 @@ some-cells_of (app f ts) = omega arith
 pub first-read : (t : Term) (cells : List Cell) (c : Cell) → cells ≡ cells_of t → c ≡ get_or cells 0 c → first_cell t ≡ c
 first-read t cells c are is = sym (first-cells_of t c) ∙ ap (λ cs. get_or cs 0 c) (sym are) ∙ sym is
 
-terms-args_in : (t : Term) → terms_in (args_in t) ≡ arguments_in t
+-- the arguments of a term, as a list
+pub terms-args_in : (t : Term) → terms_in (args_in t) ≡ arguments_in t
 terms-args_in (eigen n) = refl
 terms-args_in (bound k) = refl
 terms-args_in (variable n) = refl

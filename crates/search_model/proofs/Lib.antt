@@ -29,7 +29,10 @@ pub mod ComparisonFacts
 pub mod WalkFacts
 pub mod UnificationFacts
 pub mod LoopFacts
+pub mod NoItems
+pub mod ChosenFacts
 pub mod SolveAnswer
 pub mod SameAtoms
 pub mod GoalsMet
 pub mod TestFacts
+pub mod NodePutFacts

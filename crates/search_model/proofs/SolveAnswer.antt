@@ -10,10 +10,8 @@ use Rattle.clause_language.specs.declared.clause.Clause.{Clause}
 use Rattle.clause_language.specs.declared.program.Program.{Program}
 use Rattle.clause_language.specs.LeastModel.{AreOpenClauses, fits}
 use Rattle.search_model.specs.Run.{ended}
-use Rattle.search_model.specs.Search.{Answer, State, accepted, answer, call, rejected, start, step}
+use Rattle.search_model.specs.Search.{Alternative, Answer, State, accepted, answer, call, rejected, start, step}
 use Rattle.search_model.specs.Solve.{IsAccepted, IsRight, IsSound, Nothing, no_calculus, solving}
-use Rattle.search_model.specs.States.{IsFound}
-use Rattle.search_model.specs.declared.solve.Found.TheVariants as found
 use Rattle.search_model.specs.declared.solve.Solved.TheVariants as solved
 use Rattle.fpc_terms.proofs.RunFacts.{IsSettled, settled}
 use Rattle.search_model.proofs.SolveComplete.{rejected_holds_not}
@@ -43,7 +41,8 @@ room-none room n e = go (nat_le n room) refl e
 
 module _ (p : Program) (asked : Atom) (variables budget : ℕ) where
   -- the accepted atom, from the arguments that were found
-  pub accepted-is : (arguments : List Term) (units : ℕ) (a : Atom) → IsFound (found.Accepted arguments units) (solving p.clauses budget asked variables)
+  pub accepted-is : (arguments : List Term) (units : ℕ) (a : Atom)
+      → (b : Alternative Nothing Nothing) × (solving p.clauses budget asked variables ≡ ended (accepted b) units) × (b.asked ≡ arguments)
       → a ≡ record { name = asked.name; arguments = map (put (constant p.ids.any)) arguments } → IsAccepted p asked variables budget a units
   accepted-is arguments units a f is =
       record { found = f.0; ends = f.1; atom = is ∙ ap (λ ts. record { name = asked.name; arguments = map (put (constant p.ids.any)) ts }) (sym f.2) }

@@ -3,11 +3,14 @@ use Rattle.std.proofs.Common.{◌≡◌, ℕ, ◌<◌, ◌≤◌, ◌++◌, List
 use Rattle.fpc_terms.specs.Term.{Term, variable, put, Always, Never}
 use Rattle.fpc_terms.specs.Open.{IsOpen, Level, level_of}
 use Rattle.fpc_terms.proofs.PutFacts.{put-put, put_agrees, open_put, open_more}
-use Rattle.search_model.specs.Lawful.{IsOpenAt}
+use Rattle.clause_language.specs.declared.clause.Clause.{Clause}
+use Rattle.search_model.specs.Lawful.{IsOpenAt, IsLawful}
 use Rattle.search_model.specs.Search.{SearchCalculus}
 use Rattle.search_model.specs.Table.{ItemOn, derive, pick, init_pick, cut}
 use Rattle.search_model.specs.Table.{Table, calculus_of, AreSequents}
-use Rattle.search_model.proofs.OpenFormulaFacts.{put_same}
+use Rattle.search_model.specs.TableLaws.{AreSoundLines}
+use Rattle.search_model.proofs.OpenFormulaFacts.{put_same, step_same, step-put, step_agrees}
+use Rattle.search_model.proofs.OpenFormulaFacts.{step_open_put, step_open_more}
 
 module _ (T : Table) (laws : AreSequents T) where
   abbrev C : SearchCalculus
@@ -99,3 +102,22 @@ module _ (T : Table) (laws : AreSequents T) where
   item_scoped_more levels more (pick x n l q) h = (tt, tt, laws.scoped_more levels more n q h.2)
   item_scoped_more levels more (init_pick n l q) h = (tt, laws.scoped_more levels more n q h.1)
   item_scoped_more levels more (cut x y n b q) h = (tt, tt, tt, laws.scoped_more levels more n q h.3)
+
+  -- the calculus of a table is lawful
+  pub table_lawful : (clauses : List Clause) → AreSoundLines T clauses → IsLawful C clauses
+  table_lawful clauses lines = record {
+    item-put = item-put;
+    step-put = step-put;
+    item_same = item_same;
+    step_same = step_same;
+    item_agrees = item_agrees;
+    step_agrees = step_agrees;
+    open_put = item_open_put;
+    step_open_put = step_open_put;
+    open_more = item_open_more;
+    step_open_more = step_open_more;
+    scoped_put = λ levels after r at_levels x o scoped. item_scoped_put levels after r at_levels x scoped;
+    scoped_more = λ levels more x o scoped. item_scoped_more levels more x scoped;
+    expands = lines.expands;
+    sound = lines.sound;
+  }

@@ -4,14 +4,14 @@ use Rattle.std.proofs.Common.{ap, ap₂, ◌∙◌, sym, arith}
 use Rattle.fpc_terms.specs.declared.cell.Cell.{Cell}
 use Rattle.fpc_terms.specs.Equality.{unless, walked_node}
 use Rattle.fpc_terms.specs.Open.{Level, level_of}
-use Rattle.fpc_terms.proofs.RunFacts.{raise-one, raise-none, raise-more}
+use Rattle.fpc_terms.proofs.RunFacts.{run_answered}
 use Rattle.fpc_terms.specs.Term.{Term, Args, eigen, bound, variable, app, no_args, arg, joined, cells_before, all_before, cells_of}
 use Rattle.clause_language.specs.declared.clause.Clause.{Clause}
+use Rattle.clause_language.specs.LeastModel.{fits}
 use Rattle.search_model.specs.Run.{Ending, ended, spent, one_more}
-use Rattle.search_model.specs.Search.{Alternative, Answer, State, between, bound_to, walking}
+use Rattle.search_model.specs.Search.{SearchCalculus, Alternative, State, between, bound_to, step, walking}
 use Rattle.search_model.proofs.WalkSteps.{walked_on, behind_node}
-use Rattle.search_model.specs.Solve.{Nothing, no_calculus}
-use Rattle.search_model.specs.States.{args_in, first_cell, is_clash, walk_through, raise, running}
+use Rattle.search_model.specs.States.{args_in, at_between, first_cell, is_clash, to_between, walk_through}
 use Rattle.search_model.specs.declared.walk.Walked.{Walked}
 use Rattle.search_model.specs.declared.walk.Walked.TheVariants.{Passed, Clashed, OutOfUnits}
 
@@ -42,45 +42,52 @@ module _ (v : ℕ) (l : Level) where
       at-node true le = omega arith
       at-node false le = omega (arith, le)
 
-module _ (clauses : List Clause) (v : ℕ) (t : Term) (a : Alternative Nothing Nothing) (others : List (Alternative Nothing Nothing)) where
-  -- the run behind a walk that had n units
-  abbrev pub goes_on : ℕ → Walked × ℕ → Ending (Answer Nothing Nothing)
-  goes_on n (Passed, m) = raise (n - m) (running clauses m (between (bound_to no_calculus v t a ∷ others)))
-  goes_on n (Clashed, m) = raise (n - m) (running clauses m (between others))
-  goes_on n (OutOfUnits, m) = spent
+module _ (C : SearchCalculus) (clauses : List Clause) where
+  -- a run from a state that is no walk takes no units
+  pub at-once : (n : ℕ) (others : List (Alternative C.ItemOf C.StepOf)) → to_between C clauses n (between others) ≡ ended others 0
+  at-once n others =
+      run_answered (State C.ItemOf C.StepOf) (List (Alternative C.ItemOf C.StepOf)) at_between (step C fits clauses) n (between others) others refl
 
-  one-more : (n : ℕ) (w : Walked) (m : ℕ) → m ≤ n → one_more (goes_on n (w, m)) ≡ goes_on (suc n) (w, m)
-  one-more n Passed m le = raise-more (n - m) _ ∙ ap (λ k. raise k (running clauses m (between (bound_to no_calculus v t a ∷ others)))) (omega (arith, le))
-  one-more n Clashed m le = raise-more (n - m) _ ∙ ap (λ k. raise k (running clauses m (between others))) (omega (arith, le))
-  one-more n OutOfUnits m le = refl
+  -- the same, with the units that were taken
+  pub at-same : (n : ℕ) (q : State C.ItemOf C.StepOf) (others : List (Alternative C.ItemOf C.StepOf)) → q ≡ between others
+      → to_between C clauses n q ≡ ended others (n - n)
+  at-same n q others is = ap (to_between C clauses n) is ∙ at-once n others ∙ ap (ended others) (omega arith)
 
-  at-node : (n : ℕ) (x : Term) (xs : Args) (b : Bool)
-      → ((ys : Args) → running clauses n (walked_on no_calculus v t ys a others) ≡ goes_on n (walk_through v (level_of a.levels v) (all_before ys []) n))
-      → one_more (running clauses n (behind_node no_calculus v t (unless b (args_in x)) xs a others))
-      ≡ goes_on (suc n) (if b then (Clashed, n) else walk_through v (level_of a.levels v) (all_before (args_in x) (all_before xs [])) n)
-  at-node n x xs true runs = sym (raise-one _) ∙ ap (λ k. raise k (running clauses n (between others))) (omega arith)
-  at-node n x xs false runs =
-      ap one_more (runs (joined (args_in x) xs) ∙ ap (λ cells. goes_on n (walk_through v (level_of a.levels v) cells n)) (all-joined (args_in x) xs []))
-      ∙ one-more n _ _ (walk-le v (level_of a.levels v) (all_before (args_in x) (all_before xs [])) n)
+  module _ (v : ℕ) (t : Term) (a : Alternative C.ItemOf C.StepOf) (others : List (Alternative C.ItemOf C.StepOf)) where
+    -- the run through a walk that had n units
+    abbrev pub goes_on : ℕ → Walked × ℕ → Ending (List (Alternative C.ItemOf C.StepOf))
+    goes_on n (Passed, m) = ended (bound_to C v t a ∷ others) (n - m)
+    goes_on n (Clashed, m) = ended others (n - m)
+    goes_on n (OutOfUnits, m) = spent
 
-  -- the walk of the search ends as the walk through the cells
-  pub walk-runs : (n : ℕ) (xs : Args) → running clauses n (walked_on no_calculus v t xs a others) ≡ goes_on n (walk_through v (level_of a.levels v) (all_before xs []) n)
-  walk-runs n no_args = sym (raise-none _) ∙ ap (λ k. raise k (running clauses n (between (bound_to no_calculus v t a ∷ others)))) (omega arith)
-  walk-runs zero (arg x xs) = rw (cells-first x (all_before xs [])) refl
-  walk-runs (suc n) (arg x xs) =
-      rw (cells-first x (all_before xs []), node-is v (level_of a.levels v) x)
-      (at-node n x xs (is_clash v (level_of a.levels v) (first_cell x)) (λ ys. walk-runs n ys))
+    one-more : (n : ℕ) (w : Walked) (m : ℕ) → m ≤ n → one_more (goes_on n (w, m)) ≡ goes_on (suc n) (w, m)
+    one-more n Passed m le = ap (ended (bound_to C v t a ∷ others)) (omega (arith, le))
+    one-more n Clashed m le = ap (ended others) (omega (arith, le))
+    one-more n OutOfUnits m le = refl
 
-  -- the walk through a whole term
-  pub term-runs : (n : ℕ) → running clauses n (walking v t t no_args a others) ≡ goes_on n (walk_through v (level_of a.levels v) (cells_of t) n)
-  term-runs n = walk-runs n (arg t no_args)
+    at-node : (n : ℕ) (x : Term) (xs : Args) (b : Bool)
+        → ((ys : Args) → to_between C clauses n (walked_on C v t ys a others) ≡ goes_on n (walk_through v (level_of a.levels v) (all_before ys []) n))
+        → one_more (to_between C clauses n (behind_node C v t (unless b (args_in x)) xs a others))
+        ≡ goes_on (suc n) (if b then (Clashed, n) else walk_through v (level_of a.levels v) (all_before (args_in x) (all_before xs [])) n)
+    at-node n x xs true runs = ap one_more (at-once n others) ∙ ap (ended others) (omega arith)
+    at-node n x xs false runs =
+        ap one_more (runs (joined (args_in x) xs) ∙ ap (λ cells. goes_on n (walk_through v (level_of a.levels v) cells n)) (all-joined (args_in x) xs []))
+        ∙ one-more n _ _ (walk-le v (level_of a.levels v) (all_before (args_in x) (all_before xs [])) n)
 
-  -- the same, from the end and the units that are left
-  pub step-runs : (n : ℕ) (l : Level) (cells : List Cell) (w : Walked) (m : ℕ) → l ≡ level_of a.levels v → cells ≡ cells_of t
-      → w ≡ (walk_through v l cells n).0 → m ≡ (walk_through v l cells n).1 → running clauses n (walking v t t no_args a others) ≡ goes_on n (w, m)
-  step-runs n l cells w m at are ends left =
-      term-runs n ∙ ap₂ (λ k cs. goes_on n (walk_through v k cs n)) (sym at) (sym are) ∙ ap₂ (λ e k. goes_on n (e, k)) (sym ends) (sym left)
+    -- the walk of the search ends as the walk through the cells
+    pub walk-runs : (n : ℕ) (xs : Args) → to_between C clauses n (walked_on C v t xs a others) ≡ goes_on n (walk_through v (level_of a.levels v) (all_before xs []) n)
+    walk-runs n no_args = at-same n _ (bound_to C v t a ∷ others) refl
+    walk-runs zero (arg x xs) = rw (cells-first x (all_before xs [])) refl
+    walk-runs (suc n) (arg x xs) =
+        rw (cells-first x (all_before xs []), node-is v (level_of a.levels v) x)
+        (at-node n x xs (is_clash v (level_of a.levels v) (first_cell x)) (λ ys. walk-runs n ys))
 
--- a run that took no units
-pub at-once : (clauses : List Clause) (n : ℕ) (q r : State Nothing Nothing) → q ≡ r → running clauses n q ≡ raise (n - n) (running clauses n r)
-at-once clauses n q r same = ap (running clauses n) same ∙ sym (raise-none _) ∙ ap (λ k. raise k (running clauses n r)) (omega arith)
+    -- the walk through a whole term
+    pub term-runs : (n : ℕ) → to_between C clauses n (walking v t t no_args a others) ≡ goes_on n (walk_through v (level_of a.levels v) (cells_of t) n)
+    term-runs n = walk-runs n (arg t no_args)
+
+    -- the same, from the end and the units that are left
+    pub step-runs : (n : ℕ) (l : Level) (cells : List Cell) (w : Walked) (m : ℕ) → l ≡ level_of a.levels v → cells ≡ cells_of t
+        → w ≡ (walk_through v l cells n).0 → m ≡ (walk_through v l cells n).1 → to_between C clauses n (walking v t t no_args a others) ≡ goes_on n (w, m)
+    step-runs n l cells w m at are ends left =
+        term-runs n ∙ ap₂ (λ k cs. goes_on n (walk_through v k cs n)) (sym at) (sym are) ∙ ap₂ (λ e k. goes_on n (e, k)) (sym ends) (sym left)

@@ -2,8 +2,12 @@ pub mod Run
 pub mod Search
 pub mod Lawful
 pub mod OpenFormula
+pub mod NodePut
 pub mod Table
+pub mod TableLaws
+pub mod ClausesAlone
 pub mod Odd
+pub mod GoalItems
 pub mod Solve
 pub mod EqualityRun
 pub mod Renaming

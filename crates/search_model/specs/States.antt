@@ -1,42 +1,61 @@
 -- The values of the program's states as states of the search.
-use Rattle.std.specs.Prelude.{◌≡◌, ℕ, zero, suc, ◌+◌, ◌-◌, Bool, true, false, nat_eq, if◌then◌else◌, List, [], ◌∷◌, map, reverse, set}
+use Rattle.std.specs.Prelude.{◌≡◌, ℕ, zero, suc, ◌+◌, ◌-◌, Bool, true, false, nat_eq, if◌then◌else◌}
+use Rattle.std.specs.Prelude.{Option, Some, None, List, [], ◌∷◌, map, reverse, set}
 use Rattle.fpc_terms.specs.declared.cell.Cell.{Cell}
 use Rattle.fpc_terms.specs.declared.cell.Cell.TheVariants.{Eigen, Bound, Var, App}
-use Rattle.fpc_terms.specs.Equality.{Equality, same, parts, older, walk, clash, is_out_of_scope, has_level}
+use Rattle.fpc_terms.specs.Equality.{Equality, same, parts, older, walk, clash}
+use Rattle.fpc_terms.specs.Equality.{is_out_of_scope, has_level}
 use Rattle.fpc_terms.specs.Open.{Level, level_of, lower}
 use Rattle.fpc_terms.specs.Term.{Term, Args, eigen, bound, variable, app, no_args, count}
+use Rattle.polarised_formulas.specs.declared.step.Step.{Step}
 use Rattle.clause_language.specs.declared.clause.Clause.{Clause}
 use Rattle.clause_language.specs.LeastModel.{fits}
 pub use Rattle.fpc_terms.specs.Run.{raise}
 use Rattle.search_model.specs.Run.{Ending, ended, spent, run}
+use Rattle.search_model.specs.GoalItems.{goal_in, goal_over, list_in, list_over}
 use Rattle.search_model.specs.Search as search
-use Rattle.search_model.specs.Solve.{Nothing, no_calculus}
-use Rattle.search_model.specs.declared.alternative.Goal.{Goal}
-use Rattle.search_model.specs.declared.alternative.Goal.TheVariants.{Call, Equate}
+use Rattle.search_model.specs.Solve.{Nothing}
+use Rattle.search_model.specs.Table.{ItemOn}
+use Rattle.search_model.specs.declared.goals.Alternatives.{Alternatives}
+use Rattle.search_model.specs.declared.goals.GoalItem.{GoalItem}
+use Rattle.search_model.specs.declared.goals.Goals.{Goals}
 use Rattle.search_model.specs.declared.alternative.Alternative.{Alternative}
 use Rattle.search_model.specs.declared.comparison.Comparison.{Comparison}
-use Rattle.search_model.specs.declared.comparison.Comparison.TheVariants.{Same, Parts, Older, Left, Right, Clash}
-use Rattle.search_model.specs.declared.solve.Found.{Found}
-use Rattle.search_model.specs.declared.solve.Found.TheVariants.{Accepted as FoundAccepted, Rejected as FoundRejected, Spent as FoundSpent}
+use Rattle.search_model.specs.declared.comparison.Comparison.TheVariants.{Same, Parts, Older}
+use Rattle.search_model.specs.declared.comparison.Comparison.TheVariants.{Left, Right, Clash}
+use Rattle.search_model.specs.declared.search.Found.{Found}
+use Rattle.search_model.specs.declared.search.Found.TheVariants.{Accepted as FoundAccepted}
+use Rattle.search_model.specs.declared.search.Found.TheVariants.{Rejected as FoundRejected}
+use Rattle.search_model.specs.declared.search.Found.TheVariants.{Spent as FoundSpent}
 use Rattle.search_model.specs.declared.walk.Walked.{Walked}
 use Rattle.search_model.specs.declared.walk.Walked.TheVariants.{Passed, Clashed, OutOfUnits}
 
--- a goal
-abbrev pub goal_of : Goal → search.Goal Nothing Nothing
-goal_of (Call a) = search.call a
-goal_of (Equate t u) = search.equate t u
+-- the values over sequents S, where each sequent is one of V
+module _ {S V : Type 0} (of : S → V) where
+  -- a goal
+  abbrev pub goal_of : GoalItem S → search.Goal (ItemOn V) Step
+  goal_of g = goal_over of (goal_in g)
 
--- goals, which are kept with the first one last
-abbrev pub goals_of : List Goal → List (search.Goal Nothing Nothing)
-goals_of goals = reverse (map goal_of goals)
+  -- a goal list
+  abbrev pub list_of : Goals S → search.GoalList (ItemOn V) Step
+  list_of gs = list_over of (list_in gs)
 
--- an alternative
-abbrev pub alternative_of : Alternative → search.Alternative Nothing Nothing
-alternative_of a = record { goals = goals_of a.goals.items; emitted = []; asked = a.asked; levels = a.levels.items }
+  -- goals, which are kept with the first one last
+  abbrev pub goals_of : List (GoalItem S) → List (search.Goal (ItemOn V) Step)
+  goals_of goals = reverse (map goal_of goals)
 
--- alternatives, which are kept with the first one last
-abbrev pub alternatives_of : List Alternative → List (search.Alternative Nothing Nothing)
-alternatives_of stack = reverse (map alternative_of stack)
+  -- an alternative
+  abbrev pub alternative_of : Alternative S → search.Alternative (ItemOn V) Step
+  alternative_of a = record {
+    goals = goals_of a.goals.items;
+    emitted = a.emitted.items;
+    asked = a.asked;
+    levels = a.levels.items;
+  }
+
+  -- alternatives, which are kept with the first one last
+  abbrev pub alternatives_of : List (Alternative S) → List (search.Alternative (ItemOn V) Step)
+  alternatives_of stack = reverse (map alternative_of stack)
 
 -- each variable among the cells whose level is above l gets the level l
 abbrev pub lower_cells : Level → List Cell → List Level → List Level
@@ -80,17 +99,38 @@ walk_through v l [] units = (Passed, units)
 walk_through v l (c ∷ cells) zero = (OutOfUnits, 0)
 walk_through v l (c ∷ cells) (suc units) = if is_clash v l c then (Clashed, units) else walk_through v l cells units
 
--- the run of the search over clauses from a state
-abbrev pub running : List Clause → ℕ → search.State Nothing Nothing → Ending (search.Answer Nothing Nothing)
-running clauses units q = run search.answer (search.step no_calculus fits clauses) units q
+-- the run of the search from a state
+abbrev pub running : (C : search.SearchCalculus) → List Clause → ℕ
+    → search.State C.ItemOf C.StepOf → Ending (search.Answer C.ItemOf C.StepOf)
+running C clauses units q = run search.answer (search.step C fits clauses) units q
 
--- the run behind what took some of the units, and whether there were enough
-abbrev pub on_from : List Clause → ℕ → ℕ → Bool → search.State Nothing Nothing → Ending (search.Answer Nothing Nothing)
-on_from clauses units left true q = raise (units - left) (running clauses left q)
-on_from clauses units left false q = spent
+-- the alternatives in a state that is no walk
+abbrev pub at_between : {I S : Type 0} → search.State I S → Option (List (search.Alternative I S))
+at_between (search.between alternatives) = Some alternatives
+at_between (search.walking v t x xs first others) = None
+
+-- the run from a state to the next one that is no walk
+abbrev pub to_between : (C : search.SearchCalculus) → List Clause → ℕ
+    → search.State C.ItemOf C.StepOf → Ending (List (search.Alternative C.ItemOf C.StepOf))
+to_between C clauses units q = run at_between (search.step C fits clauses) units q
+
+-- a run that took some of the units ends with x, where there were enough
+abbrev pub reached : {X : Type 0} → ℕ → ℕ → Bool → X → Ending X
+reached units left true x = ended x (units - left)
+reached units left false x = spent
 
 -- what was found is the ending of the search
-abbrev pub IsFound : Found → Ending (search.Answer Nothing Nothing) → Type 0
-IsFound (FoundAccepted asked units) e = (a : search.Alternative Nothing Nothing) × (e ≡ ended (search.accepted a) units) × (a.asked ≡ asked)
+abbrev pub IsFound : {I : Type 0} → Found → Ending (search.Answer I Step) → Type 0
+IsFound {I = I} (FoundAccepted asked emitted units) e =
+    (a : search.Alternative I Step) × (e ≡ ended (search.accepted a) units) × (a.asked ≡ asked)
+    × (a.emitted ≡ emitted.items)
 IsFound (FoundRejected units) e = e ≡ ended search.rejected units
 IsFound FoundSpent e = e ≡ spent
+
+-- what was found is the ending of the search over clauses alone
+abbrev pub IsFoundAlone : Found → Ending (search.Answer Nothing Nothing) → Type 0
+IsFoundAlone (FoundAccepted asked emitted units) e =
+    (a : search.Alternative Nothing Nothing) × (e ≡ ended (search.accepted a) units)
+    × (a.asked ≡ asked)
+IsFoundAlone (FoundRejected units) e = e ≡ ended search.rejected units
+IsFoundAlone FoundSpent e = e ≡ spent

@@ -1,32 +1,24 @@
-//! The search over clauses alone, by copied states.
-ghost use Rattle.std.specs.Prelude.{◌≡◌, ◌≤◌, ◌∷◌, [], ℕ, List, IfOk, length, map, replicate};
-ghost use Rattle.std.specs.Prelude.{None as NoLevel};
-ghost use Rattle.fpc_terms.specs.Equality.{equality};
-ghost use Rattle.fpc_terms.specs.Open.{AreOpen, constant, level_of};
-ghost use Rattle.fpc_terms.specs.Term.{put, no_args};
-ghost use Rattle.clause_language.specs.LeastModel.{fits};
+//! The search over clauses alone.
+ghost use Rattle.std.specs.Prelude.{◌≡◌, IfOk, length, map};
+ghost use Rattle.fpc_terms.specs.Open.{AreOpen, constant};
+ghost use Rattle.fpc_terms.specs.Term.{put};
 ghost use Rattle.clause_language.specs.Naming.{IsAtomNamedBelow};
-ghost use Rattle.clause_language.specs.Program.{IsProgram, HasFewArguments};
-ghost use Rattle.search_model.specs.Search.{between, equated, taken, walking};
-ghost use Rattle.search_model.specs.Solve.{IsRight, IsSolved, IsWithin, no_calculus, solving};
-ghost use Rattle.search_model.specs.States.{alternative_of, alternatives_of, goal_of, on_from, IsFound, running};
+ghost use Rattle.clause_language.specs.Program.{IsOpenProgram, IsProgram, HasFewArguments};
+ghost use Rattle.search_model.specs.Solve.{IsRight, IsSolved, IsWithin, solving};
+ghost use Rattle.search_model.specs.States.{IsFoundAlone};
 
-use crate::alternative::{Alternative, Goal, copied_atom};
-use crate::calls::{push_all_answered, push_variables};
-use crate::comparison::{Comparison, compare};
-use crate::walk::{Walked, walk_through};
+use crate::alternative::{copied_atom, copied_terms};
+use crate::clauses_alone::ClausesAlone;
+use crate::goals::GoalItem;
+use crate::search::{Found, plain_search};
 use clause_language::atom::Atom;
-use clause_language::clause::Clause;
 use clause_language::print::atom_room;
 use clause_language::program::Program;
 use fpc_base::outside::OutOfMemory;
-use fpc_terms::arguments::arguments;
-use fpc_terms::cell::Cell;
 use fpc_terms::list::Terms;
 use fpc_terms::name::NameId;
 use fpc_terms::names::Names;
 use fpc_terms::substitution::all_with_constant;
-use fpc_terms::term::TermBuf;
 use std::alloc::Global;
 
 /// The most bytes of the text of an accepted atom.
@@ -45,163 +37,30 @@ pub enum Solved {
     TooLong,
 }
 
-/// How the search ends, with the arguments as they are at its end.
-#[derive(Drop)]
-pub(crate) enum Found {
-    Accepted { asked: Terms, units: u64 },
-    Rejected { units: u64 },
-    Spent,
-}
-
-/// Walks through a term, and then puts it for the variable in the first alternative. Answers whether there were units enough.
-fn walk_and_bind(
-    alloc: Global,
-    variable: u64,
-    term: &TermBuf,
-    first: Alternative,
-    stack: &mut Vec<Alternative>,
-    units: &mut u64,
-) -> Result<bool, OutOfMemory>
-    ensures left { IfOk result (λ enough. units.new ≤ units.old) }
-    ensures step { (clauses : List Clause) → IfOk result (λ enough. running clauses units.old (walking variable term.now term.now no_args (alternative_of first) (alternatives_of stack.old.items))
-        ≡ on_from clauses units.old units.new enough (between (alternatives_of stack.new.items))) }
-{
-    let level = first.level(variable);
-    match walk_through(term.cells(), variable, level, units) {
-        Walked::OutOfUnits => Ok(false),
-        Walked::Clashed => Ok(true),
-        Walked::Passed => {
-            stack.push(first.bound_to(alloc, variable, term)?)?;
-            Ok(true)
-        }
-    }
-}
-
-/// Takes an equality, which the first alternative has lost. Answers whether there were units enough.
-fn equate(
-    alloc: Global,
-    left: &TermBuf,
-    right: &TermBuf,
-    first: Alternative,
-    stack: &mut Vec<Alternative>,
-    units: &mut u64,
-) -> Result<bool, OutOfMemory>
-    ensures left { IfOk result (λ enough. units.new ≤ units.old) }
-    ensures step { (clauses : List Clause) → IfOk result (λ enough. running clauses units.old (equated no_calculus (equality left.now right.now) (alternative_of first) (alternatives_of stack.old.items))
-        ≡ on_from clauses units.old units.new enough (between (alternatives_of stack.new.items))) }
-{
-    match compare(left, right) {
-        Comparison::Clash => Ok(true),
-        Comparison::Same => {
-            stack.push(first)?;
-            Ok(true)
-        }
-        Comparison::Parts => {
-            stack.push(first.with_parts(alloc, left, right)?)?;
-            Ok(true)
-        }
-        Comparison::Older { young, old } => {
-            let term = TermBuf::from_cells(alloc, &[Cell::Var(old)])?;
-            stack.push(first.bound_to(alloc, young, &term)?)?;
-            Ok(true)
-        }
-        Comparison::Left(variable) => walk_and_bind(alloc, variable, right, first, stack, units),
-        Comparison::Right(variable) => walk_and_bind(alloc, variable, left, first, stack, units),
-    }
-}
-
-/// Takes a goal, which the first alternative has lost. Answers whether there were units enough.
-fn take(
-    alloc: Global,
-    clauses: &[Clause],
-    goal: Goal,
-    first: Alternative,
-    stack: &mut Vec<Alternative>,
-    units: &mut u64,
-) -> Result<bool, OutOfMemory>
-    ensures left { IfOk result (λ enough. units.new ≤ units.old) }
-    ensures step { IfOk result (λ enough.
-        running clauses.now units.old
-        (taken no_calculus fits clauses.now (goal_of goal) (alternative_of first)
-        (alternatives_of stack.old.items))
-        ≡ on_from clauses.now units.old units.new enough (between (alternatives_of stack.new.items))) }
-{
-    match goal {
-        Goal::Call(atom) => {
-            push_all_answered(alloc, clauses, &atom, &first, stack)?;
-            Ok(true)
-        }
-        Goal::Equate(left, right) => equate(alloc, &left, &right, first, stack, units),
-    }
-}
-
-/// Searches from one alternative.
-fn search(
-    alloc: Global,
-    clauses: &[Clause],
-    first: Alternative,
-    budget: u64,
-) -> Result<Found, OutOfMemory>
-    ensures { IfOk result (λ found. IsFound found (running clauses.now budget (between (alternative_of first ∷ [])))) }
-{
-    let mut stack = Vec::new(alloc);
-    stack.push(first)?;
-    let mut left = budget;
-    loop {
-        let mut first = match stack.pop() {
-            None => {
-                return Ok(Found::Rejected {
-                    units: budget - left,
-                });
-            }
-            Some(first) => first,
-        };
-        let goal = match first.goals.pop() {
-            None => {
-                return Ok(Found::Accepted {
-                    asked: first.asked,
-                    units: budget - left,
-                });
-            }
-            Some(goal) => goal,
-        };
-        if left == 0 {
-            return Ok(Found::Spent);
-        }
-        left -= 1;
-        if !take(alloc, clauses, goal, first, &mut stack, &mut left)? {
-            return Ok(Found::Spent);
-        }
-    }
-}
-
-/// So many variables without level.
-fn no_levels(alloc: Global, variables: u64) -> Result<Vec<Option<u64>>, OutOfMemory>
-    ensures { IfOk result (λ levels. levels.items ≡ replicate variables NoLevel) }
-{
-    let mut levels = Vec::new(alloc);
-    push_variables(&mut levels, variables)?;
-    Ok(levels)
-}
-
-/// Searches for an atom over clauses. Its variables have no level.
+/// Searches for an atom over the clauses of a program. Its variables have no level.
 fn search_for(
     alloc: Global,
-    clauses: &[Clause],
+    program: &Program,
     atom: &Atom,
     variables: u64,
     budget: u64,
 ) -> Result<Found, OutOfMemory>
-    ensures { IfOk result (λ found. IsFound found (solving clauses.now budget atom.now variables)) }
+    requires program { IsOpenProgram program.now }
+    requires is_open { AreOpen variables atom.now.arguments }
+    ensures { IfOk result (λ found. IsFoundAlone found (solving program.now.clauses budget atom.now variables)) }
 {
-    let mut goals = Vec::new(alloc);
-    goals.push(Goal::Call(copied_atom(atom)?))?;
-    let first = Alternative {
-        goals,
-        asked: atom.arguments.clone()?,
-        levels: no_levels(alloc, variables)?,
-    };
-    search(alloc, clauses, first, budget)
+    let question = copied_atom(atom)?;
+    let asked = copied_terms(&atom.arguments)?;
+    let goal = GoalItem::Call(question);
+    plain_search(
+        alloc,
+        &ClausesAlone,
+        program,
+        goal,
+        asked,
+        variables,
+        budget,
+    )
 }
 
 /// The atom with these arguments, and a constant for each variable in them.
@@ -233,11 +92,10 @@ pub fn plain_solve(
     ensures units { IfOk result (IsWithin budget) }
     ensures right { IfOk result (IsRight program.now.clauses atom.now) }
 {
-    let clauses = program.clauses.items();
-    match search_for(alloc, clauses, atom, variables, budget)? {
+    match search_for(alloc, program, atom, variables, budget)? {
         Found::Rejected { units } => Ok(Solved::Rejected { units }),
         Found::Spent => Ok(Solved::Spent),
-        Found::Accepted { asked, units } => {
+        Found::Accepted { asked, units, .. } => {
             let found = closed(alloc, atom, &asked, program.ids.any)?;
             match atom_room(names, &found, TEXT_LIMIT) {
                 Some(_) => Ok(Solved::Accepted { atom: found, units }),

@@ -1,0 +1,68 @@
+//! The calculus without sequents, for the search over clauses alone.
+ghost use Rattle.search_model.specs.ClausesAlone.{no_table, no_table_complete, no_table_is_table};
+ghost use Rattle.search_model.specs.ClausesAlone.{no_table_sequents, no_table_sound};
+
+use crate::calculus::Calculus;
+use crate::goals::{Alternatives, GoalItem, SequentGoal};
+use clause_language::program::Program;
+use fpc_base::outside::OutOfMemory;
+use fpc_terms::term::TermBuf;
+use std::alloc::Global;
+
+/// There is no sequent.
+#[derive(Drop)]
+pub enum NoSequent {}
+
+/// The calculus without sequents.
+#[derive(Clone, Copy, Debug)]
+pub struct ClausesAlone;
+
+impl Calculus for ClausesAlone {
+    type Sequent = NoSequent;
+
+    ghost table = { λ p. no_table };
+
+    ghost sequent_of = { λ p q. tt };
+
+    fn expand(
+        &self,
+        alloc: Global,
+        program: &Program,
+        goal: &SequentGoal<NoSequent>,
+        fresh: u64,
+    ) -> Result<Alternatives<NoSequent>, OutOfMemory> {
+        match goal.sequent {}
+    }
+
+    fn choose(
+        &self,
+        alloc: Global,
+        program: &Program,
+        item: &GoalItem<NoSequent>,
+        fresh: u64,
+    ) -> Result<Alternatives<NoSequent>, OutOfMemory> {
+        Ok(Alternatives::new(alloc))
+    }
+
+    fn copy(&self, alloc: Global, sequent: &NoSequent) -> Result<NoSequent, OutOfMemory> {
+        match *sequent {}
+    }
+
+    fn substitute(
+        &self,
+        alloc: Global,
+        sequent: &NoSequent,
+        variable: u64,
+        term: &TermBuf,
+    ) -> Result<NoSequent, OutOfMemory> {
+        match *sequent {}
+    }
+
+    ghost sequents = { λ p. no_table_sequents };
+
+    ghost tabled = { λ p o few. no_table_is_table };
+
+    ghost sound = { λ p o. no_table_sound p.clauses };
+
+    ghost complete = { λ p o. no_table_complete p.clauses };
+}

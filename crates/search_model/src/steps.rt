@@ -1,0 +1,163 @@
+//! Copies of steps, and terms substituted for variables in steps.
+ghost use Rattle.std.specs.Prelude.{◌≡◌, ◌++◌, [], IfOk, OnOk, map};
+ghost use Rattle.std.specs.List.{flat_map};
+ghost use Rattle.fpc_terms.specs.Open.{at_one};
+ghost use Rattle.polarised_formulas.specs.Formula.{inside_before};
+ghost use Rattle.search_model.specs.OpenFormula.{put_formula, put_step};
+ghost use Rattle.search_model.specs.NodePut.{node_put};
+
+use fpc_base::outside::OutOfMemory;
+use fpc_terms::cell::Cell;
+use fpc_terms::substitution::with_term;
+use fpc_terms::term::TermBuf;
+use polarised_formulas::formula::Formula;
+use polarised_formulas::node::Node;
+use polarised_formulas::step::Step;
+use std::alloc::Global;
+
+/// Adds cells to nodes.
+fn push_cells(nodes: &mut Vec<Node>, cells: &[Cell]) -> Result<(), OutOfMemory>
+    ensures { OnOk result (nodes.new.items ≡ nodes.old.items ++ inside_before cells.now []) }
+{
+    for cell in cells {
+        nodes.push(Node::Inside(*cell))?;
+    }
+    Ok(())
+}
+
+/// Adds a node to nodes; the cells of a term in place of the variable.
+fn push_with_term(
+    nodes: &mut Vec<Node>,
+    node: Node,
+    variable: u64,
+    by: &TermBuf,
+) -> Result<(), OutOfMemory>
+    ensures { OnOk result (nodes.new.items ≡ nodes.old.items ++ node_put (at_one variable by.now) node) }
+{
+    if let Node::Inside(Cell::Var(number)) = node {
+        if number == variable {
+            return push_cells(nodes, by.cells());
+        }
+    }
+    nodes.push(node)?;
+    Ok(())
+}
+
+fn nodes_with_term(
+    alloc: Global,
+    nodes: &[Node],
+    variable: u64,
+    by: &TermBuf,
+) -> Result<Vec<Node>, OutOfMemory>
+    ensures { IfOk result (λ new. new.items ≡ flat_map (node_put (at_one variable by.now)) nodes.now) }
+{
+    let mut new = Vec::new(alloc);
+    for node in nodes {
+        push_with_term(&mut new, *node, variable, by)?;
+    }
+    Ok(new)
+}
+
+/// The formula with a term for a variable. Time and memory are linear in the size of what comes out.
+pub fn formula_with_term(
+    alloc: Global,
+    formula: &Formula,
+    variable: u64,
+    by: &TermBuf,
+) -> Result<Formula, OutOfMemory>
+    ensures { IfOk result (λ f. f ≡ put_formula (at_one variable by.now) formula.now) }
+{
+    let nodes = nodes_with_term(alloc, formula.nodes(), variable, by)?;
+    Formula::from_nodes(alloc, nodes.as_slice())
+}
+
+/// A copy of a step.
+pub(crate) fn copied_step(step: &Step) -> Result<Step, OutOfMemory>
+    ensures { IfOk result (λ e. e ≡ step.now) }
+{
+    match step {
+        Step::TrueN => Ok(Step::TrueN),
+        Step::FalseN => Ok(Step::FalseN),
+        Step::OrN => Ok(Step::OrN),
+        Step::AndN => Ok(Step::AndN),
+        Step::Every => Ok(Step::Every),
+        Step::Store => Ok(Step::Store),
+        Step::TrueP => Ok(Step::TrueP),
+        Step::AndP => Ok(Step::AndP),
+        Step::Release => Ok(Step::Release),
+        Step::LTrue => Ok(Step::LTrue),
+        Step::LFalse => Ok(Step::LFalse),
+        Step::LAnd => Ok(Step::LAnd),
+        Step::LOr => Ok(Step::LOr),
+        Step::LExists => Ok(Step::LExists),
+        Step::LStore => Ok(Step::LStore),
+        Step::RTrue => Ok(Step::RTrue),
+        Step::RAnd => Ok(Step::RAnd),
+        Step::RImp => Ok(Step::RImp),
+        Step::REvery => Ok(Step::REvery),
+        Step::RStore => Ok(Step::RStore),
+        Step::DecideR => Ok(Step::DecideR),
+        Step::FocLImp => Ok(Step::FocLImp),
+        Step::FocLInit => Ok(Step::FocLInit),
+        Step::FocLRelease => Ok(Step::FocLRelease),
+        Step::FocRTrue => Ok(Step::FocRTrue),
+        Step::FocRAnd => Ok(Step::FocRAnd),
+        Step::FocRRelease => Ok(Step::FocRRelease),
+        Step::Decide(place) => Ok(Step::Decide(*place)),
+        Step::Init(place) => Ok(Step::Init(*place)),
+        Step::DecideL(place) => Ok(Step::DecideL(*place)),
+        Step::FocRInit(place) => Ok(Step::FocRInit(*place)),
+        Step::OrP(side) => Ok(Step::OrP(*side)),
+        Step::FocLAnd(side) => Ok(Step::FocLAnd(*side)),
+        Step::FocROr(side) => Ok(Step::FocROr(*side)),
+        Step::Exists(term) => Ok(Step::Exists(term.clone()?)),
+        Step::FocLEvery(term) => Ok(Step::FocLEvery(term.clone()?)),
+        Step::FocRExists(term) => Ok(Step::FocRExists(term.clone()?)),
+        Step::Cut(formula) => Ok(Step::Cut(formula.copy()?)),
+    }
+}
+
+/// Copies of steps.
+pub(crate) fn copied_steps(alloc: Global, steps: &[Step]) -> Result<Vec<Step>, OutOfMemory>
+    ensures { IfOk result (λ es. es.items ≡ steps.now) }
+{
+    let mut copies = Vec::new(alloc);
+    for step in steps {
+        copies.push(copied_step(step)?)?;
+    }
+    Ok(copies)
+}
+
+/// The step with a term for a variable. Time and memory are linear in the size of what comes out.
+pub(crate) fn step_with_term(
+    alloc: Global,
+    step: &Step,
+    variable: u64,
+    by: &TermBuf,
+) -> Result<Step, OutOfMemory>
+    ensures { IfOk result (λ e. e ≡ put_step (at_one variable by.now) step.now) }
+{
+    match step {
+        Step::Exists(term) => Ok(Step::Exists(with_term(alloc, term, variable, by)?)),
+        Step::Cut(formula) => Ok(Step::Cut(formula_with_term(alloc, formula, variable, by)?)),
+        Step::FocLEvery(term) => Ok(Step::FocLEvery(with_term(alloc, term, variable, by)?)),
+        Step::FocRExists(term) => Ok(Step::FocRExists(with_term(alloc, term, variable, by)?)),
+        other => copied_step(other),
+    }
+}
+
+/// The steps with a term for a variable.
+pub(crate) fn steps_with_term(
+    alloc: Global,
+    steps: &[Step],
+    variable: u64,
+    by: &TermBuf,
+) -> Result<Vec<Step>, OutOfMemory>
+    ensures { IfOk result (λ es. es.items ≡ map (put_step (at_one variable by.now)) steps.now) }
+{
+    let mut found = Vec::new(alloc);
+    for step in steps {
+        found.push(step_with_term(alloc, step, variable, by)?)?;
+    }
+    Ok(found)
+}
