@@ -1,4 +1,4 @@
--- The table of the search over clauses alone: its one sequent, which no code has, gives nothing.
+-- The table of the search over clauses alone: its one sequent has no goal list.
 use Rattle.std.specs.Prelude.{◌≡◌, ℕ, ◌+◌, ◌<◌, ◌≤◌, List, [], ◌++◌, map, refl}
 use Rattle.std.proofs.Common.{arith}
 use Rattle.clause_language.specs.declared.clause.Clause.{Clause}

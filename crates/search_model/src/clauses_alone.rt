@@ -1,4 +1,4 @@
-//! The calculus without sequents, for the search over clauses alone.
+//! The calculus whose one sequent has no goal list, for the search over clauses alone.
 ghost use Rattle.search_model.specs.ClausesAlone.{no_table, no_table_complete, no_table_is_table};
 ghost use Rattle.search_model.specs.ClausesAlone.{no_table_sequents, no_table_sound};
 
@@ -9,11 +9,11 @@ use fpc_base::outside::OutOfMemory;
 use fpc_terms::term::TermBuf;
 use std::alloc::Global;
 
-/// There is no sequent.
-#[derive(Drop)]
-pub enum NoSequent {}
+/// The one sequent of the calculus, which has no goal list. A search over clauses alone never meets it.
+#[derive(Clone, Copy, Debug)]
+pub struct NoSequent;
 
-/// The calculus without sequents.
+/// The calculus whose one sequent has no goal list.
 #[derive(Clone, Copy, Debug)]
 pub struct ClausesAlone;
 
@@ -31,7 +31,7 @@ impl Calculus for ClausesAlone {
         goal: &SequentGoal<NoSequent>,
         fresh: u64,
     ) -> Result<Alternatives<NoSequent>, OutOfMemory> {
-        match goal.sequent {}
+        Ok(Alternatives::new(alloc))
     }
 
     fn choose(
@@ -45,7 +45,7 @@ impl Calculus for ClausesAlone {
     }
 
     fn copy(&self, alloc: Global, sequent: &NoSequent) -> Result<NoSequent, OutOfMemory> {
-        match *sequent {}
+        Ok(NoSequent)
     }
 
     fn substitute(
@@ -55,7 +55,7 @@ impl Calculus for ClausesAlone {
         variable: u64,
         term: &TermBuf,
     ) -> Result<NoSequent, OutOfMemory> {
-        match *sequent {}
+        Ok(NoSequent)
     }
 
     ghost sequents = { λ p. no_table_sequents };
