@@ -1,5 +1,5 @@
 -- What the grammars of inputs owe: whole bytes are not refused, and others have one refusal.
-use Rattle.std.proofs.Common.{◌≡◌, ℕ, List, [], length, Option, Some, None, sym, ap, ◌∙◌, inl, inr}
+use Rattle.std.proofs.Common.{◌≡◌, ℕ, List, [], length, Option, Some, None, sym, ap, ◌∙◌, subst, inl, inr}
 use Rattle.fpc_base.specs.Lexeme.{Lexeme, items_of}
 use Rattle.fpc_base.specs.declared.refusal.Refusal.{Refusal}
 use Rattle.fpc_terms.specs.ReadTerm.{any_variable}
@@ -9,13 +9,15 @@ use Rattle.fpc_terms.proofs.TermReading.{is-whole}
 use Rattle.polarised_formulas.proofs.ProblemReading.{problem-read_once, problem-refused_once, problem-not_both}
 use Rattle.fpc_base.proofs.ReadingLaws.{all-not_both, all-refused_once}
 use Rattle.polarised_formulas.specs.Written.{WrittenFormula, WrittenProblem}
+use Rattle.polarised_formulas.specs.declared.logic.Logic.{Logic}
 use Rattle.polarised_formulas.specs.declared.logic.Logic.TheVariants.{Lkf, Ljf}
-use Rattle.clause_language.proofs.FileReading.{definition-refused_once, definition-not_both, certificate-refused_once, certificate-not_both}
+use Rattle.clause_language.proofs.FileReading.{definition-read_once, definition-refused_once, definition-not_both, certificate-refused_once, certificate-not_both}
 use Rattle.clause_language.specs.ReadAtom.{IsAtom, AtomLimits}
-use Rattle.clause_language.specs.Written.{WrittenAtom}
+use Rattle.clause_language.specs.Limits.{declared_names}
+use Rattle.clause_language.specs.Written.{WrittenAtom, WrittenDefinition}
 use Rattle.fpc_cli.specs.declared.command.Form.{Form}
 use Rattle.fpc_cli.specs.declared.command.Form.TheVariants.{Problem, Definition, Certificate}
-use Rattle.fpc_cli.specs.Grammars.{problem, lkf_problem, definition, certificate, atom, grammar_of, IsNotBuilt, IsProblemOf}
+use Rattle.fpc_cli.specs.Grammars.{problem, lkf_problem, definition, certificate, certificate_after, atom, grammar_of, IsNotBuilt, IsProblemOf, IsDefinitionOf, IsWholeCertificate, RefusesCertificate}
 use Rattle.fpc_cli.proofs.InputLaws.{IsLawful}
 
 pub problem-lawful : IsLawful problem
@@ -43,22 +45,37 @@ lkf_problem-lawful = record { apart = apart; once = once } where
   once bytes r s (inr h) (inl k) = absurd (problem-not_both (length bytes) (items_of bytes) h.written s h.reads k)
   once bytes r s (inr h) (inr k) = h.told ∙ sym k.told
 
-pub definition-lawful : IsLawful definition
-definition-lawful = record {
-  apart = λ bytes r h k. definition-not_both None (length bytes) (items_of bytes) h.0 r h.1 k;
-  once = λ bytes r s h k. definition-refused_once None (length bytes) (items_of bytes) r s h k;
+pub definition-lawful : (expected : Option Logic) → IsLawful (definition expected)
+definition-lawful expected = record {
+  apart = λ bytes r h k. definition-not_both expected (length bytes) (items_of bytes) h.0 r h.1 k;
+  once = λ bytes r s h k. definition-refused_once expected (length bytes) (items_of bytes) r s h k;
 }
 
-pub certificate-lawful : IsLawful certificate
-certificate-lawful = record {
-  apart = λ bytes r h k. certificate-not_both None [] (length bytes) (items_of bytes) h.0 r h.1 k;
-  once = λ bytes r s h k. certificate-refused_once None [] (length bytes) (items_of bytes) r s h k;
+pub certificate-lawful : (expected : Option Logic) (earlier : List (List ℕ)) → IsLawful (certificate expected earlier)
+certificate-lawful expected earlier = record {
+  apart = λ bytes r h k. certificate-not_both expected earlier (length bytes) (items_of bytes) h.0 r h.1 k;
+  once = λ bytes r s h k. certificate-refused_once expected earlier (length bytes) (items_of bytes) r s h k;
 }
+
+pub certificate_after-lawful : (bytes : List ℕ) → IsLawful (certificate_after bytes)
+certificate_after-lawful bytes = record { apart = apart; once = once } where
+  declares : (d e : WrittenDefinition) → IsDefinitionOf (Some Lkf) bytes d → IsDefinitionOf (Some Lkf) bytes e → declared_names d.items ≡ declared_names e.items
+  declares d e h k = ap (λ (w : WrittenDefinition). declared_names w.items) (definition-read_once (Some Lkf) (items_of bytes) d e h k)
+
+  apart : (text : List ℕ) (r : Refusal) → (certificate_after bytes).IsWhole text → (certificate_after bytes).Refuses text r → ⊥
+  apart text r (d, (h, w)) (e, (k, refused)) =
+      certificate-not_both (Some Lkf) (declared_names e.items) (length text) (items_of text)
+      (subst (λ names. IsWholeCertificate (Some Lkf) names text) (declares d e h k) w).0 r (subst (λ names. IsWholeCertificate (Some Lkf) names text) (declares d e h k) w).1 refused
+
+  once : (text : List ℕ) (r s : Refusal) → (certificate_after bytes).Refuses text r → (certificate_after bytes).Refuses text s → r ≡ s
+  once text r s (d, (h, v)) (e, (k, w)) =
+      certificate-refused_once (Some Lkf) (declared_names e.items) (length text) (items_of text) r s
+      (subst (λ names. RefusesCertificate (Some Lkf) names text r) (declares d e h k) v) w
 
 pub form-lawful : (form : Form) → IsLawful (grammar_of form)
 form-lawful Problem = problem-lawful
-form-lawful Definition = definition-lawful
-form-lawful Certificate = certificate-lawful
+form-lawful Definition = definition-lawful None
+form-lawful Certificate = certificate-lawful None []
 
 -- an atom as a term
 abbrev term_of : WrittenAtom → WrittenTerm

@@ -3,6 +3,7 @@ pub mod Contents
 pub mod GrammarLaws
 pub mod InputLaws
 pub mod OneAnswer
+pub mod OriginFacts
 pub mod PrintedForms
 pub mod SearchOnce
 pub mod WordCounts

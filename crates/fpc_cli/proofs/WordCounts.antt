@@ -1,7 +1,7 @@
 -- Words of a known number.
-use Rattle.std.proofs.Common.{◌≡◌, ℕ, List, [], ◌∷◌, length, Some, sym, arith}
+use Rattle.std.proofs.Common.{◌≡◌, ℕ, List, [], ◌∷◌, length, Some, refl, sym, arith}
 use Rattle.std.specs.Prelude.{slice_get}
-use Rattle.fpc_cli.specs.Command.{asked_by, short_asked}
+use Rattle.fpc_cli.specs.Command.{asked_by, short_asked, check_asked}
 
 -- three words ask for what a command and two words behind it ask for
 pub three-words : (words : List (List ℕ)) (a b c : List ℕ) → length words ≡ 3 → slice_get words 0 ≡ Some a → slice_get words 1 ≡ Some b → slice_get words 2 ≡ Some c
@@ -15,3 +15,18 @@ three-words (x ∷ y ∷ z ∷ []) a b c n f s t =
     let third : z ≡ c = cc in
     let same : short_asked x y z ≡ short_asked a b c = cc in sym same
 three-words (x ∷ y ∷ z ∷ w ∷ ws) a b c n f s t = absurd (omega (arith, n))
+
+-- so do four words
+pub four-words : (words : List (List ℕ)) (a b c d : List ℕ) → length words ≡ 4 → slice_get words 0 ≡ Some a → slice_get words 1 ≡ Some b → slice_get words 2 ≡ Some c → slice_get words 3 ≡ Some d
+    → check_asked a b c d ≡ asked_by words
+four-words [] a b c d n h0 h1 h2 h3 = absurd (omega (arith, n))
+four-words (x ∷ []) a b c d n h0 h1 h2 h3 = absurd (omega (arith, n))
+four-words (x ∷ y ∷ []) a b c d n h0 h1 h2 h3 = absurd (omega (arith, n))
+four-words (x ∷ y ∷ z ∷ []) a b c d n h0 h1 h2 h3 = absurd (omega (arith, n))
+four-words (x ∷ y ∷ z ∷ w ∷ []) a b c d n h0 h1 h2 h3 =
+    let e0 : x ≡ a = cc in
+    let e1 : y ≡ b = cc in
+    let e2 : z ≡ c = cc in
+    let e3 : w ≡ d = cc in
+    let same : check_asked x y z w ≡ check_asked a b c d = rw (e0, e1, e2, e3) refl in sym same
+four-words (x ∷ y ∷ z ∷ w ∷ t ∷ ts) a b c d n h0 h1 h2 h3 = absurd (omega (arith, n))

@@ -1,3 +1,5 @@
+pub mod CheckFacts
+pub mod CheckLaws
 pub mod FormatFacts
 pub mod FormatLaws
 pub mod SolveFacts

@@ -4,19 +4,30 @@ use Rattle.std.specs.List.{starts_with}
 use Rattle.fpc_base.specs.Tokens.{is_digit}
 use Rattle.fpc_cli.specs.declared.answer.Role.{Role}
 use Rattle.fpc_cli.specs.declared.answer.Role.TheVariants as role
+use Rattle.fpc_cli.specs.declared.built_in.BuiltIn.{BuiltIn}
+use Rattle.fpc_cli.specs.declared.built_in.BuiltIn.TheVariants.{Cnf}
 use Rattle.fpc_cli.specs.declared.command.Command.{Command}
-use Rattle.fpc_cli.specs.declared.command.Command.TheVariants.{Verify, Format, Solve, Usage}
+use Rattle.fpc_cli.specs.declared.command.Command.TheVariants.{Verify, Check, Format, Solve, Usage}
+use Rattle.fpc_cli.specs.declared.command.Origin.{Origin}
+use Rattle.fpc_cli.specs.declared.command.Origin.TheVariants as origin
 use Rattle.fpc_cli.specs.declared.command.Form.{Form}
 use Rattle.fpc_cli.specs.declared.command.Form.TheVariants.{Problem, Definition, Certificate}
 
+-- a definition that was chosen: the one in a file, or one that is built in
+pub data Chosen : Type 0 where
+  in_file : (name : List ℕ) → Chosen
+  built_in : BuiltIn → Chosen
+
 -- what the program is asked to do: to verify the explicit certificate in one file against the
--- problem in another, to print the printed form of a file that is read as a problem, a definition
--- or a certificate, to search for an instance of an atom that holds by the definition in a file,
--- within a budget of units, or nothing that it knows
+-- problem in another, to check a problem by a definition and the certificate in a file, within a
+-- budget of units, to print the printed form of a file that is read as a problem, a definition or a
+-- certificate, to search for an instance of an atom that holds by a definition, within a budget of
+-- units, or nothing that it knows
 pub data Asked : Type 0 where
   verify : (problem explicit : List ℕ) → Asked
+  check : (budget : ℕ) → (problem : List ℕ) → (definition : Chosen) → (certificate : List ℕ) → Asked
   format : (form : Form) → (file : List ℕ) → Asked
-  solve : (budget : ℕ) → (definition atom : List ℕ) → Asked
+  solve : (budget : ℕ) → (definition : Chosen) → (atom : List ℕ) → Asked
   usage : Asked
 
 -- a word that can name a file: it is not empty and does not begin with `-`
@@ -82,15 +93,45 @@ BudgetIsDecimal =
 abbrev pub is_definition_word : List ℕ → Bool
 is_definition_word word = is_file_word word && not (starts_with nat_eq word (codes "builtin:"))
 
--- after `solve` and its budget: a definition's file, and any word as an atom
+-- the definition that a word chooses
+abbrev pub definition_said : List ℕ → Option Chosen
+definition_said word =
+    if bytes_eq word (codes "builtin:cnf") then Some (built_in Cnf)
+    else (if is_definition_word word then Some (in_file word)
+    else None)
+
+-- a search, where a definition was chosen
+abbrev pub solve_over : ℕ → Option Chosen → List ℕ → Asked
+solve_over budget None atom = usage
+solve_over budget (Some definition) atom = solve budget definition atom
+
+-- after `solve` and its budget: a definition, and any word as an atom
 abbrev pub solve_by : ℕ → List ℕ → List ℕ → Asked
-solve_by budget definition atom =
-    if is_definition_word definition then solve budget definition atom else usage
+solve_by budget definition atom = solve_over budget (definition_said definition) atom
 
 -- a search, where a budget was said
 abbrev pub solve_within : Option ℕ → List ℕ → List ℕ → Asked
 solve_within None definition atom = usage
 solve_within (Some budget) definition atom = solve_by budget definition atom
+
+-- a check, where a definition was chosen
+abbrev pub check_over : ℕ → List ℕ → Option Chosen → List ℕ → Asked
+check_over budget problem None certificate = usage
+check_over budget problem (Some definition) certificate =
+    check budget problem definition certificate
+
+-- after `check` and its budget: a problem's file, a definition, and a certificate's file
+abbrev pub check_by : ℕ → List ℕ → List ℕ → List ℕ → Asked
+check_by budget problem definition certificate =
+    if is_file_word problem && is_file_word certificate
+    then check_over budget problem (definition_said definition) certificate
+    else usage
+
+-- a check, where a budget was said
+abbrev pub check_within : Option ℕ → List ℕ → List ℕ → List ℕ → Asked
+check_within None problem definition certificate = usage
+check_within (Some budget) problem definition certificate =
+    check_by budget problem definition certificate
 
 -- a command and two words after it
 abbrev pub short_asked : List ℕ → List ℕ → List ℕ → Asked
@@ -100,6 +141,13 @@ short_asked name second third =
     else (if bytes_eq name (codes "solve") then solve_by usual_budget second third
     else usage))
 
+-- `check` and three words after it
+abbrev pub check_asked : List ℕ → List ℕ → List ℕ → List ℕ → Asked
+check_asked name problem definition certificate =
+    if bytes_eq name (codes "check")
+    then check_by usual_budget problem definition certificate
+    else usage
+
 -- `solve` with `--budget`, a budget and two words after it
 abbrev pub long_asked : List ℕ → List ℕ → List ℕ → List ℕ → List ℕ → Asked
 long_asked name flag budget definition atom =
@@ -107,19 +155,42 @@ long_asked name flag budget definition atom =
     then solve_within (budget_said budget) definition atom
     else usage
 
--- the words are exactly a command and two more that it may have, or `solve` and four; any others
--- are an error of usage
+-- `check` with `--budget`, a budget and three words after it
+abbrev pub long_check_asked : List ℕ → List ℕ → List ℕ → List ℕ → List ℕ → List ℕ → Asked
+long_check_asked name flag budget problem definition certificate =
+    if bytes_eq name (codes "check") && bytes_eq flag (codes "--budget")
+    then check_within (budget_said budget) problem definition certificate
+    else usage
+
+-- The words are exactly a command and as many more as it has, where those that search may have
+-- `--budget` and a budget directly after their name. Any others are an error of usage.
 abbrev pub asked_by : List (List ℕ) → Asked
 asked_by (name ∷ second ∷ third ∷ []) = short_asked name second third
+asked_by (name ∷ problem ∷ definition ∷ certificate ∷ []) =
+    check_asked name problem definition certificate
 asked_by (name ∷ flag ∷ budget ∷ definition ∷ atom ∷ []) =
     long_asked name flag budget definition atom
+asked_by (name ∷ flag ∷ budget ∷ problem ∷ definition ∷ certificate ∷ []) =
+    long_check_asked name flag budget problem definition certificate
 asked_by _ = usage
+
+-- the definition that comes from there
+abbrev pub chosen_of : Origin → Chosen
+chosen_of (origin.File name) = in_file name.now
+chosen_of (origin.BuiltIn definition) = built_in definition
+
+-- where a definition comes from, if a word said so, is what was chosen
+abbrev pub IsSaid : Option Origin → Option Chosen → Type 0
+IsSaid None chosen = chosen ≡ None
+IsSaid (Some definition) chosen = chosen ≡ Some (chosen_of definition)
 
 -- what a command stands for
 abbrev pub asked_of : Command → Asked
 asked_of (Verify problem explicit) = verify problem.now explicit.now
+asked_of (Check budget problem definition certificate) =
+    check budget problem.now (chosen_of definition) certificate.now
 asked_of (Format form file) = format form file.now
-asked_of (Solve budget definition atom) = solve budget definition.now atom.now
+asked_of (Solve budget definition atom) = solve budget (chosen_of definition) atom.now
 asked_of Usage = usage
 
 -- the role of a file of a form

@@ -1,13 +1,14 @@
 -- The grammars of a command's inputs.
-use Rattle.std.specs.Prelude.{◌≡◌, ◌⊎◌, ℕ, List, [], ◌∷◌, length, None}
+use Rattle.std.specs.Prelude.{◌≡◌, ◌⊎◌, ℕ, List, [], ◌∷◌, length, Option, Some, None}
 use Rattle.fpc_base.specs.Lexeme.{Item, says, items_of}
 use Rattle.fpc_base.specs.Reading.{ReadsAll, RefusesAll}
 use Rattle.fpc_base.specs.declared.refusal.Code.TheVariants.{NotBuilt}
 use Rattle.fpc_base.specs.declared.refusal.Refusal.{Refusal}
+use Rattle.polarised_formulas.specs.declared.logic.Logic.{Logic}
 use Rattle.polarised_formulas.specs.declared.logic.Logic.TheVariants.{Lkf, Ljf}
 use Rattle.polarised_formulas.specs.Place.{ProblemLimits}
 use Rattle.polarised_formulas.specs.Written.{WrittenFormula, WrittenProblem, IsProblem}
-use Rattle.clause_language.specs.Limits.{DefinitionLimits, CertificateLimits}
+use Rattle.clause_language.specs.Limits.{DefinitionLimits, CertificateLimits, declared_names}
 use Rattle.clause_language.specs.ReadAtom.{IsAtom, AtomLimits}
 use Rattle.clause_language.specs.Written.{WrittenDefinition, WrittenCertificate, WrittenAtom, IsDefinition, IsCertificate}
 use Rattle.fpc_cli.specs.declared.command.Form.{Form}
@@ -50,34 +51,60 @@ lkf_problem = record {
   Refuses = λ bytes r. RefusesProblem bytes r ⊎ IsNotBuilt bytes r;
 }
 
--- the bytes are a definition of either logic, within the limits
-abbrev pub IsWholeDefinition : List ℕ → Type 0
-IsWholeDefinition bytes =
-    (w : WrittenDefinition) × ReadsAll IsDefinition (DefinitionLimits None) [] (items_of bytes) w
+-- the bytes are this definition, within the limits; a logic may be expected
+abbrev pub IsDefinitionOf : Option Logic → List ℕ → WrittenDefinition → Type 0
+IsDefinitionOf expected bytes w =
+    ReadsAll IsDefinition (DefinitionLimits expected) [] (items_of bytes) w
+
+-- the bytes are a definition
+abbrev pub IsWholeDefinition : Option Logic → List ℕ → Type 0
+IsWholeDefinition expected bytes = (w : WrittenDefinition) × IsDefinitionOf expected bytes w
 
 -- the refusal of the bytes as a definition, at the first place where they go wrong
-abbrev pub RefusesDefinition : List ℕ → Refusal → Type 0
-RefusesDefinition bytes r =
-    RefusesAll IsDefinition (DefinitionLimits None) (length bytes) [] (items_of bytes) r
+abbrev pub RefusesDefinition : Option Logic → List ℕ → Refusal → Type 0
+RefusesDefinition expected bytes r =
+    RefusesAll IsDefinition (DefinitionLimits expected) (length bytes) [] (items_of bytes) r
 
--- definitions of either logic
-abbrev pub definition : Grammar
-definition = record { IsWhole = IsWholeDefinition; Refuses = RefusesDefinition }
+-- definitions, of the logic that is expected or of either one
+abbrev pub definition : Option Logic → Grammar
+definition expected = record {
+  IsWhole = IsWholeDefinition expected;
+  Refuses = RefusesDefinition expected;
+}
 
--- the bytes are a certificate of either logic that stands alone, within the limits
-abbrev pub IsWholeCertificate : List ℕ → Type 0
-IsWholeCertificate bytes =
+-- the bytes are a certificate, within the limits, where formulas of earlier names are declared; a
+-- logic may be expected
+abbrev pub IsWholeCertificate : Option Logic → (earlier : List (List ℕ)) → List ℕ → Type 0
+IsWholeCertificate expected earlier bytes =
     (w : WrittenCertificate)
-    × ReadsAll IsCertificate (CertificateLimits None []) [] (items_of bytes) w
+    × ReadsAll IsCertificate (CertificateLimits expected earlier) [] (items_of bytes) w
 
 -- the refusal of the bytes as such a certificate, at the first place where they go wrong
-abbrev pub RefusesCertificate : List ℕ → Refusal → Type 0
-RefusesCertificate bytes r =
-    RefusesAll IsCertificate (CertificateLimits None []) (length bytes) [] (items_of bytes) r
+abbrev pub RefusesCertificate
+    : Option Logic → (earlier : List (List ℕ)) → List ℕ → Refusal → Type 0
+RefusesCertificate expected earlier bytes r =
+    RefusesAll IsCertificate (CertificateLimits expected earlier) (length bytes) []
+    (items_of bytes) r
 
--- certificates of either logic that stand alone
-abbrev pub certificate : Grammar
-certificate = record { IsWhole = IsWholeCertificate; Refuses = RefusesCertificate }
+-- certificates, of the logic that is expected or of either one, where formulas of earlier names are
+-- declared
+abbrev pub certificate : Option Logic → (earlier : List (List ℕ)) → Grammar
+certificate expected earlier = record {
+  IsWhole = IsWholeCertificate expected earlier;
+  Refuses = RefusesCertificate expected earlier;
+}
+
+-- certificates of LKF after the definition in these bytes: the formulas that it declares are
+-- earlier ones
+abbrev pub certificate_after : List ℕ → Grammar
+certificate_after bytes = record {
+  IsWhole = λ text.
+      (d : WrittenDefinition) × (IsDefinitionOf (Some Lkf) bytes d
+      × IsWholeCertificate (Some Lkf) (declared_names d.items) text);
+  Refuses = λ text r.
+      (d : WrittenDefinition) × (IsDefinitionOf (Some Lkf) bytes d
+      × RefusesCertificate (Some Lkf) (declared_names d.items) text r);
+}
 
 -- the bytes are an atom, within the limits
 abbrev pub IsWholeAtom : List ℕ → Type 0
@@ -94,5 +121,5 @@ atom = record { IsWhole = IsWholeAtom; Refuses = RefusesAtom }
 -- the grammar of a form
 abbrev pub grammar_of : Form → Grammar
 grammar_of Problem = problem
-grammar_of Definition = definition
-grammar_of Certificate = certificate
+grammar_of Definition = definition None
+grammar_of Certificate = certificate None []

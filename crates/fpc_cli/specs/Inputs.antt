@@ -1,6 +1,6 @@
 -- The inputs of a command, and how they are read: one after the other, and the first that isn't
 -- good decides the answer.
-use Rattle.std.specs.Prelude.{◌≡◌, ◌≢◌, ◌⊎◌, ℕ, ◌<◌, ◌≤◌, List, [], ◌∷◌, ◌++◌, length, Option}
+use Rattle.std.specs.Prelude.{◌≡◌, ◌≢◌, ◌⊎◌, ℕ, ◌<◌, ◌≤◌, List, [], ◌∷◌, ◌++◌, length}
 use Rattle.fpc_base.specs.Outside.{Outside, Content, missing, holds, Rose, IsAtEnd, IsAtStartOf, Opens}
 use Rattle.fpc_base.specs.declared.refusal.Code.TheVariants.{TooLarge}
 use Rattle.fpc_base.specs.declared.refusal.ParseRefusal.{ParseRefusal}

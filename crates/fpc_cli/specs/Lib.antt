@@ -1,7 +1,9 @@
+pub mod BuiltIn
 pub mod Command
 pub mod Answer
 pub mod Held
 pub mod Inputs
+pub mod Origins
 pub mod Grammars
 pub mod commands
 pub mod Run

@@ -4,8 +4,9 @@ use Rattle.fpc_base.specs.Outside.{Outside, Content, Rose, Adds, AddsPrefix}
 use Rattle.fpc_cli.specs.declared.answer.Answer.{Answer}
 use Rattle.fpc_cli.specs.declared.answer.Answer.TheVariants.{OutOfMemory}
 use Rattle.fpc_cli.specs.Answer.{answer_text, status_of}
-use Rattle.fpc_cli.specs.Command.{Asked, verify, format, solve, usage}
+use Rattle.fpc_cli.specs.Command.{Asked, verify, check, format, solve, usage}
 use Rattle.fpc_cli.specs.Inputs.{Task, Comes}
+use Rattle.fpc_cli.specs.commands.Check.{check_task}
 use Rattle.fpc_cli.specs.commands.Format.{format_task}
 use Rattle.fpc_cli.specs.commands.Solve.{solve_task}
 use Rattle.fpc_cli.specs.commands.Usage.{usage_task}
@@ -14,6 +15,8 @@ use Rattle.fpc_cli.specs.commands.Verify.{verify_task}
 -- what each command does
 abbrev pub task_of : Asked → Task
 task_of (verify problem explicit) = verify_task problem explicit
+task_of (check budget problem definition certificate) =
+    check_task budget problem definition certificate
 task_of (format form file) = format_task form file
 task_of (solve budget definition atom) = solve_task budget definition atom
 task_of usage = usage_task

@@ -37,7 +37,7 @@ impl fmt::Display for Role {
 /// What the program answers.
 #[derive(Drop)]
 pub enum Answer {
-    /// The certificate was played to its end, in so many steps.
+    /// The goal has a derivation of so many steps, which the certificate gives or guides.
     Accepted { steps: u64 },
     /// The certificate is wrong at the step of that number.
     Rejected { at: u64 },
@@ -45,7 +45,7 @@ pub enum Answer {
     Formatted { text: Text },
     /// An instance of the atom holds; this is its text.
     Holds { atom: Text },
-    /// No instance of the atom holds.
+    /// No instance of the atom holds, or the certificate guides no derivation of the goal.
     NotProved,
     /// The search took all units of its budget before its end.
     BudgetSpent,

@@ -1,8 +1,9 @@
 //! The commands that the program's words ask for.
 ghost use Rattle.std.specs.Prelude.{◌≡◌};
-ghost use Rattle.fpc_cli.specs.Command.{asked_by, asked_of, short_asked, long_asked, verify_by, format_by, form_said, role_of, is_file_word, with_digit, with_digits, budget_said, is_definition_word, solve_by};
+ghost use Rattle.fpc_cli.specs.Command.{asked_by, asked_of, short_asked, long_asked, check_asked, long_check_asked, verify_by, check_by, format_by, form_said, role_of, is_file_word, with_digit, with_digits, budget_said, is_definition_word, definition_said, IsSaid, solve_by};
 
 use crate::answer::Role;
+use crate::built_in::BuiltIn;
 use crate::words::Words;
 
 /// What a file that is to be printed is read as.
@@ -26,6 +27,15 @@ impl Form {
     }
 }
 
+/// Where a definition comes from.
+#[derive(Clone, Copy, PartialEq, Eq, Debug)]
+pub enum Origin<'a> {
+    /// The file of this name.
+    File(&'a str),
+    /// The program, which has it built in.
+    BuiltIn(BuiltIn),
+}
+
 /// What the program is asked to do.
 #[derive(Clone, Copy, PartialEq, Eq, Debug)]
 pub enum Command<'a> {
@@ -34,16 +44,22 @@ pub enum Command<'a> {
         problem: &'a str,
         explicit: &'a str,
     },
+    /// Check a problem by a definition and the certificate in a file, within a budget of units.
+    Check {
+        budget: u64,
+        problem: &'a str,
+        definition: Origin<'a>,
+        certificate: &'a str,
+    },
     /// Print the printed form of a file.
     Format {
         form: Form,
         file: &'a str,
     },
-    /// Search for an instance of an atom that holds by the definition in a file, within a budget
-    /// of units.
+    /// Search for an instance of an atom that holds by a definition, within a budget of units.
     Solve {
         budget: u64,
-        definition: &'a str,
+        definition: Origin<'a>,
         atom: &'a str,
     },
     /// Say that the words are no command.
@@ -62,12 +78,21 @@ pub fn command_of(words: &Words) -> Command<'_>
 {
     match words.len() {
         3 => short_command(words.get(0), words.get(1), words.get(2)),
+        4 => check_command(words.get(0), words.get(1), words.get(2), words.get(3)),
         5 => long_command(
             words.get(0),
             words.get(1),
             words.get(2),
             words.get(3),
             words.get(4),
+        ),
+        6 => long_check_command(
+            words.get(0),
+            words.get(1),
+            words.get(2),
+            words.get(3),
+            words.get(4),
+            words.get(5),
         ),
         _ => Command::Usage,
     }
@@ -88,6 +113,22 @@ fn short_command<'a>(name: &str, second: &'a str, third: &'a str) -> Command<'a>
     }
 }
 
+/// The command of a name and three words after it.
+fn check_command<'a>(
+    name: &str,
+    problem: &'a str,
+    definition: &'a str,
+    certificate: &'a str,
+) -> Command<'a>
+    ensures { asked_of result ≡ check_asked name.now problem.now definition.now certificate.now }
+{
+    if name == "check" {
+        check_of(USUAL_BUDGET, problem, definition, certificate)
+    } else {
+        Command::Usage
+    }
+}
+
 /// The command of a name, a flag with its budget, and two words after it.
 fn long_command<'a>(
     name: &str,
@@ -103,6 +144,27 @@ fn long_command<'a>(
     }
     match budget_said(budget) {
         Some(budget) => solve_of(budget, definition, atom),
+        None => Command::Usage,
+    }
+}
+
+/// The command of a name, a flag with its budget, and three words after it.
+fn long_check_command<'a>(
+    name: &str,
+    flag: &str,
+    budget: &str,
+    problem: &'a str,
+    definition: &'a str,
+    certificate: &'a str,
+) -> Command<'a>
+    ensures { asked_of result ≡ long_check_asked name.now flag.now budget.now problem.now
+        definition.now certificate.now }
+{
+    if name != "check" || flag != "--budget" {
+        return Command::Usage;
+    }
+    match budget_said(budget) {
+        Some(budget) => check_of(budget, problem, definition, certificate),
         None => Command::Usage,
     }
 }
@@ -150,14 +212,49 @@ fn form_said(word: &str) -> Option<Form>
 fn solve_of<'a>(budget: u64, definition: &'a str, atom: &'a str) -> Command<'a>
     ensures { asked_of result ≡ solve_by budget definition.now atom.now }
 {
-    if is_definition_word(definition) {
-        Command::Solve {
+    match definition_said(definition) {
+        Some(definition) => Command::Solve {
             budget,
             definition,
             atom,
-        }
+        },
+        None => Command::Usage,
+    }
+}
+
+/// The command of the words after `check` and its budget.
+fn check_of<'a>(
+    budget: u64,
+    problem: &'a str,
+    definition: &'a str,
+    certificate: &'a str,
+) -> Command<'a>
+    ensures { asked_of result ≡ check_by budget problem.now definition.now certificate.now }
+{
+    if !(is_file_word(problem) && is_file_word(certificate)) {
+        return Command::Usage;
+    }
+    match definition_said(definition) {
+        Some(definition) => Command::Check {
+            budget,
+            problem,
+            definition,
+            certificate,
+        },
+        None => Command::Usage,
+    }
+}
+
+/// The definition that a word chooses.
+fn definition_said(word: &str) -> Option<Origin<'_>>
+    ensures { IsSaid result (definition_said word.now) }
+{
+    if word == "builtin:cnf" {
+        Some(Origin::BuiltIn(BuiltIn::Cnf))
+    } else if is_definition_word(word) {
+        Some(Origin::File(word))
     } else {
-        Command::Usage
+        None
     }
 }
 

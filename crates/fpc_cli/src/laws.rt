@@ -3,6 +3,7 @@
 ghost use Rattle.fpc_cli.specs.Command.{BudgetIsDecimal};
 ghost use Rattle.fpc_cli.specs.Laws.{AnswerIsDue, HasOneAnswer};
 
+use elaborator::laws::one_outcome;
 use explicit_kernel::laws::numbers;
 use search_model::laws::one_solution;
 
@@ -13,6 +14,7 @@ pub fn one_answer()
 {
     numbers();
     one_solution();
+    one_outcome();
 }
 
 /// The answer of a command is the one that the contents of its files call for, but for want of
@@ -22,6 +24,7 @@ pub fn due_answers()
 {
     numbers();
     one_solution();
+    one_outcome();
 }
 
 /// A word says a budget exactly where it has the decimal digits of a number from 1 to the most

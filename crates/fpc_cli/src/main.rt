@@ -2,9 +2,11 @@
 #![tactic(auto)]
 
 mod answer;
+mod built_in;
 mod command;
 mod commands;
 mod laws;
+mod reading;
 mod run;
 mod source;
 mod status;

@@ -5,6 +5,7 @@ ghost use Rattle.fpc_cli.specs.Run.{IsCaused, IsAnswered, IsPut};
 
 use crate::answer::{Answer, WANT_OF_MEMORY, status, text_of};
 use crate::command::{Command, command_of};
+use crate::commands::check::checked;
 use crate::commands::format::formatted;
 use crate::commands::solve::solved;
 use crate::commands::verify::verified;
@@ -23,6 +24,12 @@ fn answer<F: Files>(alloc: Global, words: &Words, files: &mut F) -> Answer
 {
     match command_of(words) {
         Command::Verify { problem, explicit } => verified(alloc, problem, explicit, files),
+        Command::Check {
+            budget,
+            problem,
+            definition,
+            certificate,
+        } => checked(alloc, budget, problem, definition, certificate, files),
         Command::Format { form, file } => formatted(alloc, form, file, files),
         Command::Solve {
             budget,

@@ -1,11 +1,9 @@
-//! Tests of the libraries over their public calls, a file or a folder for each. What rows of commands can show
-//! is not shown here.
+//! Tests of the libraries over their public calls, a file for each: of calls that take memory, where no row of
+//! a command reaches an answer.
 #![tactic(auto)]
 
 #[cfg(test)]
 mod base;
-#[cfg(test)]
-mod clauses;
 #[cfg(test)]
 mod form;
 #[cfg(test)]
@@ -14,6 +12,8 @@ mod formulas;
 mod kernel;
 #[cfg(test)]
 mod rules;
+#[cfg(test)]
+mod search;
 #[cfg(test)]
 mod terms;
 #[cfg(test)]

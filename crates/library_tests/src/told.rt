@@ -1,4 +1,4 @@
-//! Refusals as texts, long texts, and steps of lines.
+//! Refusals as texts, and steps of lines.
 use explicit_form::StepReader;
 use fpc_base::ParseRefusal;
 use fpc_terms::Names;
@@ -17,29 +17,6 @@ pub(crate) fn refusal_text(alloc: Global, refusal: ParseRefusal) -> Result<Vec<u
         }
         ParseRefusal::OutOfMemory => b"want of memory".to_vec(alloc),
     }
-}
-
-/// What stands around an inner text: a text before all, one that comes many times before it, one that comes
-/// as often after it, and a text after all.
-pub(crate) type Around<'a> = (&'a str, &'a str, &'a str, &'a str);
-
-/// An inner text with so many others around it.
-pub(crate) fn long_text(
-    alloc: Global,
-    (front, before, after, back): Around<'_>,
-    inner: &str,
-    count: usize,
-) -> Result<Vec<u8>, AllocError> {
-    let mut text = front.as_bytes().to_vec(alloc)?;
-    for _ in 0..count {
-        text.extend_from_slice(before.as_bytes())?;
-    }
-    text.extend_from_slice(inner.as_bytes())?;
-    for _ in 0..count {
-        text.extend_from_slice(after.as_bytes())?;
-    }
-    text.extend_from_slice(back.as_bytes())?;
-    Ok(text)
 }
 
 /// The step of a line.

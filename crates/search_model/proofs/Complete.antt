@@ -5,7 +5,7 @@ use Rattle.std.proofs.lemmas.List.{length-replicate}
 use Rattle.std.proofs.lemmas.List.Elements.{All-nil, All-cons, All-head, All-tail}
 use mathlib.Core.Path.{refl}
 use Rattle.fpc_terms.specs.Term.{Term, put}
-use Rattle.fpc_terms.specs.Open.{IsGround, IsOpen, AreOpen, Level, level_of, IsScopedAt, IsClosing}
+use Rattle.fpc_terms.specs.Open.{IsGround, IsOpen, AreOpen, Level, level_of, IsClosing}
 use Rattle.fpc_terms.specs.Equality.{equality, walked_node}
 use Rattle.fpc_terms.proofs.EqualityFacts.{means_equality, equality_walks}
 use Rattle.clause_language.specs.declared.clause.Clause.{Clause}

@@ -1,22 +1,24 @@
 -- Facts of the loop over the stack of alternatives.
-use Rattle.std.specs.Prelude.{◌≡◌, ◌≢◌, ℕ, zero, suc, ◌-◌, ◌≤◌, Bool, true, false, List, [], ◌∷◌, ◌++◌, length, refl, Some}
+use Rattle.std.specs.Prelude.{◌≡◌, ◌≢◌, ℕ, zero, suc, ◌-◌, ◌≤◌, true, false, List, [], ◌∷◌, ◌++◌, length, refl, Some}
+use Rattle.std.specs.List.{All}
 use Rattle.std.proofs.Common.{ap, ap₂, subst, ◌∙◌, sym, arith}
-use Rattle.std.proofs.lemmas.List.Elements.{All-head, All-nil, All-cons}
+use Rattle.std.proofs.lemmas.List.Elements.{All-head, All-tail, All-nil, All-cons, All-weaker}
 use Rattle.fpc_terms.specs.Open.{AreOpen}
 use Rattle.fpc_terms.specs.Term.{Term}
 use Rattle.clause_language.specs.declared.clause.Clause.{Clause}
 use Rattle.clause_language.specs.LeastModel.{fits, AreOpenClauses}
 use Rattle.search_model.specs.Lawful.{AreGoals, IsGoal, IsLawful}
-use Rattle.search_model.specs.Run.{Ending, ended, spent, one_more, run}
+use Rattle.search_model.specs.Run.{Ending, ended, spent, one_more}
 use Rattle.search_model.specs.Search as search
 use Rattle.search_model.specs.States.{goal_of, goals_of, alternative_of, alternatives_of, at_between, raise, reached, running, to_between, IsFound}
-use Rattle.search_model.specs.Table.{Table, calculus_of, AreSequents}
+use Rattle.search_model.specs.Table.{Table, calculus_of, AreSequents, IsLevelled, IsTable}
 use Rattle.search_model.specs.TableLaws.{AreSoundLines}
 use Rattle.search_model.specs.declared.alternative.Alternative.{Alternative}
 use Rattle.search_model.specs.declared.goals.GoalItem.{GoalItem}
 use Rattle.search_model.specs.declared.search.Found.TheVariants.{Accepted}
 use Rattle.search_model.proofs.ChoiceFacts.{fits_is_choice}
 use Rattle.search_model.proofs.Fine.{IsFine, AreFine, IsStateFine}
+use Rattle.search_model.proofs.ItemLevels.{IsLow, AreLow, levelled_more, are_low_more, taken_low, reached_low}
 use Rattle.search_model.proofs.Sound.{step_fine}
 use Rattle.search_model.proofs.StateFacts.{seen-push, alternatives-push}
 use Rattle.search_model.proofs.TableFacts.{table_lawful}
@@ -134,14 +136,40 @@ module _ (T : Table) {S : Type 0} (of : S → T.SequentOf) (clauses : List Claus
             (step_fine C-of fits fits_is_choice clauses (table_lawful T sequents clauses lines) (AnyEnd C-of clauses) opens
             (search.between (search.with_goals (alternative_of of a) (goal_of of g ∷ goals_of of gs) ∷ alternatives_of of below)) fine-now) e
 
+      module _ (table : IsTable T) (n : ℕ) (low : AreLow T n (alternatives_of of stack)) where
+        low-now : AreLow T n (search.with_goals (alternative_of of a) (goal_of of g ∷ goals_of of gs) ∷ alternatives_of of below)
+        low-now = subst (AreLow T n) with-goal low
+
+        first-low : All (IsLevelled n) (goal_of of g ∷ goals_of of gs)
+        first-low = All-head (IsLow T n) (search.with_goals (alternative_of of a) (goal_of of g ∷ goals_of of gs)) (alternatives_of of below) low-now
+
+        -- its goal has at most the level of the stack
+        pub goal-levelled : (m : ℕ) → n ≤ m → IsLevelled m (goal_of of g)
+        goal-levelled m le = levelled_more T n m le (goal_of of g) (All-head (IsLevelled n) (goal_of of g) (goals_of of gs) first-low)
+
+        -- the levels rise by at most one
+        pub stays-low : (left k : ℕ) (found_now : List (search.Alternative C-of.ItemOf C-of.StepOf)) (m : ℕ) → suc n ≤ m
+            → to_between C-of clauses left (search.taken C-of fits clauses (goal_of of g) (search.with_goals (alternative_of of a) (goals_of of gs)) (alternatives_of of below)) ≡ ended found_now k
+            → AreLow T m found_now
+        stays-low left k found_now m le e =
+            are_low_more T (suc n) m le found_now
+            (reached_low T clauses (suc n) left _ found_now k
+            (taken_low T table clauses n (goal_of of g) (search.with_goals (alternative_of of a) (goals_of of gs)) (alternatives_of of below)
+            (goal-levelled n (omega arith)) (All-tail (IsLevelled n) (goal_of of g) (goals_of of gs) first-low)
+            (All-tail (IsLow T n) (search.with_goals (alternative_of of a) (goal_of of g ∷ goals_of of gs)) (alternatives_of of below) low-now)) e)
+
   -- the loop begins
   pub begins-loop : (budget : ℕ) (first : Alternative S) (stack : List (Alternative S)) → stack ≡ first ∷ []
-      → AreGoals C-of first.levels.items (alternative_of of first).goals → AreOpen (length first.levels.items) first.asked
+      → AreGoals C-of first.levels.items (alternative_of of first).goals → All (IsLevelled 0) (alternative_of of first).goals → AreOpen (length first.levels.items) first.asked
       → (running C-of clauses budget (search.between (alternative_of of first ∷ [])) ≡ raise (budget - budget) (running C-of clauses budget (search.between (alternatives_of of stack))))
-      × (budget ≤ budget) × AreFine C-of clauses (AnyEnd C-of clauses) (alternatives_of of stack)
-  begins-loop budget first stack is goals asked = (
+      × (budget ≤ budget) × AreLow T (budget - budget) (alternatives_of of stack) × AreFine C-of clauses (AnyEnd C-of clauses) (alternatives_of of stack)
+  begins-loop budget first stack is goals low asked = (
     sym (raise-none _) ∙ ap₂ (λ k q. raise k (running C-of clauses budget (search.between (alternatives_of of q)))) (omega arith) (sym is),
     omega arith,
+    subst (λ q. AreLow T (budget - budget) (alternatives_of of q)) (sym is)
+        (All-cons (IsLow T (budget - budget)) (alternative_of of first) []
+        (All-weaker (IsLevelled 0) (IsLevelled (budget - budget)) (levelled_more T 0 (budget - budget) (omega arith)) (alternative_of of first).goals low)
+        (All-nil (IsLow T (budget - budget)))),
     subst (λ q. AreFine C-of clauses (AnyEnd C-of clauses) (alternatives_of of q)) (sym is)
         (All-cons (IsFine C-of clauses (AnyEnd C-of clauses)) (alternative_of of first) []
         (record { goals_are = goals; asked_open = asked; ends = λ s closing steps h. tt }) (All-nil (IsFine C-of clauses (AnyEnd C-of clauses)))),

@@ -1,5 +1,5 @@
 -- The names of what a search finds stand in the table that holds those of the clauses and of the question.
-use Rattle.std.proofs.Common.{◌≡◌, ℕ, zero, suc, ◌<◌, nat_eq, List, [], ◌∷◌, length, codes, get_or, refl, ap, ap₂, arith}
+use Rattle.std.proofs.Common.{◌≡◌, ℕ, ◌<◌, nat_eq, List, [], ◌∷◌, length, codes, get_or, refl, ap, ap₂}
 use Rattle.fpc_terms.specs.Term.{Term, Args, eigen, bound, variable, app, no_args, arg}
 use Rattle.fpc_terms.specs.Text.{name_in}
 use Rattle.fpc_terms.specs.Printing.{HasNamesBelow, HaveNamesBelow}
@@ -13,8 +13,9 @@ use Rattle.clause_language.specs.Naming.{AreTermsNamedBelow, IsAtomNamedBelow, A
 use Rattle.search_model.specs.Run.{ended}
 use Rattle.search_model.specs.Search.{Alternative, accepted}
 use Rattle.search_model.specs.Solve.{Nothing, solving, solved_atom, IsAccepted}
-use Rattle.search_model.proofs.SameAtoms.{SameAtom, SameClause}
+use Rattle.search_model.specs.Same.{SameAtom, SameClause}
 use Rattle.search_model.proofs.Renaming.{solved-same, endings_tell}
+use Rattle.search_model.proofs.SameNames.{below_where_named}
 
 -- one number, below n
 abbrev IsOneBelow : ℕ → ℕ → ℕ → Type 0
@@ -73,12 +74,6 @@ pub solved_named : (n : ℕ) (clauses : List Clause) (budget : ℕ) (a : Atom) (
     → solving clauses budget a variables ≡ ended (accepted found) units → IsAtomNamedBelow n (solved_atom any a found)
 solved_named n clauses budget a variables any units found h k s e =
     atom-named n (solved-same any any (refl, s) (atom-kept n a k) (endings_tell (one_below n) budget variables (clauses-kept n clauses h) (atom-kept n a k) e e).0)
-
--- what has a name of some length stands in the table
-below_where_named : (names : List (List ℕ)) (k b : ℕ) (bs : List ℕ) → name_in names k ≡ b ∷ bs → k < length names
-below_where_named [] k b bs e = cc
-below_where_named (x ∷ names) zero b bs e = omega arith
-below_where_named (x ∷ names) (suc k) b bs e = let less = below_where_named names k b bs e in omega (arith, less)
 
 -- the name of the constant for variables that are left
 pub any_is : (names : List (List ℕ)) (i : WordIds) → HaveWords names i → name_in names i.any ≡ codes "any"

@@ -3,9 +3,8 @@ use Rattle.std.specs.Prelude.{◌≡◌, ℕ, zero, suc, Bool, true, false, Opti
 use Rattle.std.proofs.Common.{ap, ap₂, ◌∙◌, sym}
 use Rattle.std.proofs.lemmas.List.{map-append}
 use Rattle.fpc_terms.specs.Equality.{Equality, same, parts, older, walk, clash, equality, walked_node}
-use Rattle.fpc_terms.specs.Open.{Level, later, at_one, level_of}
+use Rattle.fpc_terms.specs.Open.{later, at_one, level_of}
 use Rattle.fpc_terms.specs.Term.{Term, Args, no_args, arg, joined, put, terms_in}
-use Rattle.fpc_terms.specs.Unification.{Equation, equations_before}
 use Rattle.polarised_formulas.specs.declared.step.Step.{Step}
 use Rattle.clause_language.specs.declared.atom.Atom.{Atom}
 use Rattle.clause_language.specs.declared.clause.Clause.{Clause}
@@ -13,11 +12,11 @@ use Rattle.clause_language.specs.LeastModel.{fits, put_atom}
 use Rattle.search_model.specs.Run.{Ending, ended, spent, one_more, run}
 use Rattle.search_model.specs.Search.{SearchCalculus, Goal, call, equate, emit, item, GoalList, Alternative, State, between, walking}
 use Rattle.search_model.specs.Search.{Answer, accepted, rejected, answer, answer_of, by_clause, by_clauses, where_it_fits, bound_to}
-use Rattle.search_model.specs.Search.{equalities, equated, extended, goals_before, put_goal, search, start, step, taken, with_goals}
+use Rattle.search_model.specs.Search.{equalities, equated, extended, put_goal, search, start, step, taken, with_goals}
 use Rattle.search_model.specs.ClausesAlone.{no_table}
 use Rattle.search_model.specs.Solve.{Nothing, no_calculus, solving}
 use Rattle.search_model.specs.States.{IsFound, IsFoundAlone}
-use Rattle.search_model.specs.Table.{ItemOn, calculus_of}
+use Rattle.search_model.specs.Table.{calculus_of}
 use Rattle.search_model.specs.declared.search.Found.{Found}
 use Rattle.search_model.specs.declared.search.Found.TheVariants.{Accepted, Rejected, Spent}
 use Rattle.fpc_terms.proofs.RunFacts.{run_answered, run_going, run_spent}

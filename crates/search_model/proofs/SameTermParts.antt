@@ -1,9 +1,10 @@
 -- What becomes of terms that are the same but for the numbers of their names.
-use Rattle.std.proofs.Common.{◌≡◌, ℕ, suc, ◌+◌, Bool, true, false, ◌&&◌, nat_eq, nat_lt, List, map, refl, ap, ap₂, ◌∙◌, subst}
+use Rattle.std.proofs.Common.{◌≡◌, ℕ, suc, ◌+◌, Bool, true, false, ◌&&◌, nat_eq, nat_lt, List, ◌++◌, map, Some, refl, ap, ap₂, ◌∙◌, subst}
 use Rattle.fpc_terms.specs.Term.{Term, Args, count, terms_in, joined, put, put_all}
 use Rattle.fpc_terms.specs.Open.{Level, at_one, later, constant, lower_in, lower_in_args}
 use Rattle.fpc_terms.specs.Equality.{Equality, same, parts, older, walk, clash, only_if, equality_of_variables, equality, is_out_of_scope, has_level, unless, walked_node}
 use Rattle.fpc_terms.proofs.SameTerms.{SameTerm, SameArgs, same_eigen, same_bound, same_variable, same_app, same_no_args, same_arg, SameList, same_nil, same_cons, SameOption, same_none, same_some, if-same}
+use Rattle.search_model.specs.Same.{IsOneToOne, AreRelated, related_nil, related_cons}
 
 -- the two equalities are the same but for their names, which are related
 pub data SameEquality (S : ℕ → ℕ → Type 0) : Equality → Equality → Type 0 where
@@ -18,6 +19,31 @@ pub map-same : {X Y : Type 0} {R : X → X → Type 0} {Q : Y → Y → Type 0} 
     → SameList Q (map f xs) (map g ys)
 map-same f g h same_nil = same_nil
 map-same f g h (same_cons {x = x} {y = y} k ks) = same_cons (h x y k) (map-same f g h ks)
+
+-- lists after others
+pub append-related : {X Y : Type 0} {R : X → Y → Type 0} {xs us : List X} {ys vs : List Y} → AreRelated R xs ys → AreRelated R us vs → AreRelated R (xs ++ us) (ys ++ vs)
+append-related related_nil k = k
+append-related (related_cons h hs) k = related_cons h (append-related hs k)
+
+-- so are lists of what functions make of related items
+pub map-related : {X Y Z W : Type 0} {R : X → Y → Type 0} {Q : Z → W → Type 0} (f : X → Z) (g : Y → W) → ((x : X) (y : Y) → R x y → Q (f x) (g y)) → {xs : List X} {ys : List Y} → AreRelated R xs ys
+    → AreRelated Q (map f xs) (map g ys)
+map-related f g h related_nil = related_nil
+map-related f g h (related_cons {x = x} {y = y} k ks) = related_cons (h x y k) (map-related f g h ks)
+
+pub map-to_related : {X Z W : Type 0} {R : X → X → Type 0} {Q : Z → W → Type 0} (f : X → Z) (g : X → W) → ((x y : X) → R x y → Q (f x) (g y)) → {xs ys : List X} → SameList R xs ys
+    → AreRelated Q (map f xs) (map g ys)
+map-to_related f g h same_nil = related_nil
+map-to_related f g h (same_cons {x = x} {y = y} k ks) = related_cons (h x y k) (map-to_related f g h ks)
+
+-- related items of one type
+pub listed : {X : Type 0} {R : X → X → Type 0} {xs ys : List X} → AreRelated R xs ys → SameList R xs ys
+listed related_nil = same_nil
+listed (related_cons h hs) = same_cons h (listed hs)
+
+-- what is there on both sides is related
+pub some-same : {X : Type 0} (R : X → X → Type 0) {x y : X} → SameOption R (Some x) (Some y) → R x y
+some-same R (same_some h) = h
 
 module _ {S : ℕ → ℕ → Type 0} where
   mutual
@@ -95,7 +121,7 @@ module _ {S : ℕ → ℕ → Type 0} where
       if-same (SameEquality S) (nat_eq m n) (λ _. same_same) (λ _. if-same (SameEquality S) (nat_lt m n) (λ _. same_older n m) (λ _. same_older m n))
 
   -- what an equality comes to, where the relation is one to one
-  module _ (one : (f g m n : ℕ) → S f m → S g n → nat_eq f g ≡ nat_eq m n) where
+  module _ (one : IsOneToOne S) where
     pub equality-same : {t u s r : Term} → SameTerm S t s → SameTerm S u r → SameEquality S (equality t u) (equality s r)
     equality-same (same_variable m) (same_variable n) = variables-same m n
     equality-same (same_variable m) (same_eigen n) = same_walk m (same_eigen n)

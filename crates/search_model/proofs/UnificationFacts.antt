@@ -11,7 +11,7 @@ use Rattle.fpc_terms.specs.Unification.{equations_before, solved_by, after_equal
 use Rattle.fpc_terms.specs.Unification.{unify_step}
 use Rattle.clause_language.specs.declared.clause.Clause.{Clause}
 use Rattle.clause_language.specs.LeastModel.{fits}
-use Rattle.search_model.specs.Search.{SearchCalculus, Choice, Goal, equate, Alternative, Rest, between, walking}
+use Rattle.search_model.specs.Search.{SearchCalculus, Choice, Goal, equate, Alternative, Rest, between}
 use Rattle.search_model.specs.Search.{State, Answer, answer, answer_of, goals_before, problem_of, of_problem, at_first}
 use Rattle.search_model.specs.Search.{put_goal, put_rest, step}
 use Rattle.search_model.specs.Solve.{no_calculus}

@@ -1,5 +1,5 @@
 -- The walk through cells is the walk of the search.
-use Rattle.std.specs.Prelude.{◌≡◌, ℕ, zero, suc, ◌+◌, ◌-◌, ◌≤◌, Bool, true, false, if◌then◌else◌, List, [], ◌∷◌, refl}
+use Rattle.std.specs.Prelude.{◌≡◌, ℕ, zero, suc, ◌-◌, ◌≤◌, Bool, true, false, if◌then◌else◌, List, [], ◌∷◌, refl}
 use Rattle.std.proofs.Common.{ap, ap₂, ◌∙◌, sym, arith}
 use Rattle.fpc_terms.specs.declared.cell.Cell.{Cell}
 use Rattle.fpc_terms.specs.Equality.{unless, walked_node}

@@ -1,5 +1,5 @@
 -- The table of the search over clauses alone: its one sequent has no goal list.
-use Rattle.std.specs.Prelude.{◌≡◌, ℕ, ◌+◌, ◌<◌, ◌≤◌, List, [], ◌++◌, map, refl}
+use Rattle.std.specs.Prelude.{List, [], refl}
 use Rattle.std.proofs.Common.{arith}
 use Rattle.clause_language.specs.declared.clause.Clause.{Clause}
 use Rattle.search_model.specs.Lawful.{IsComplete}

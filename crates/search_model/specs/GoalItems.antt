@@ -4,7 +4,8 @@ use Rattle.polarised_formulas.specs.declared.step.Step.{Step}
 use Rattle.search_model.specs.Search.{Goal, call, equate, emit, item, GoalList}
 use Rattle.search_model.specs.Table.{ItemOn, derive, pick, init_pick, cut}
 use Rattle.search_model.specs.declared.goals.GoalItem.{GoalItem}
-use Rattle.search_model.specs.declared.goals.GoalItem.TheVariants.{Seq, Call, Eq, Emit, Pick, InitPick, Cut}
+use Rattle.search_model.specs.declared.goals.GoalItem.TheVariants.{Seq, Call, Eq, Emit}
+use Rattle.search_model.specs.declared.goals.GoalItem.TheVariants.{Pick, InitPick, Cut}
 use Rattle.search_model.specs.declared.goals.Goals.{Goals}
 use Rattle.search_model.specs.declared.goals.Alternatives.{Alternatives}
 

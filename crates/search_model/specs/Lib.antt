@@ -3,12 +3,16 @@ pub mod Search
 pub mod Lawful
 pub mod OpenFormula
 pub mod NodePut
+pub mod StoredFormulas
 pub mod Table
+pub mod Lines
 pub mod TableLaws
 pub mod ClausesAlone
 pub mod Odd
 pub mod GoalItems
 pub mod Solve
+pub mod Checking
 pub mod EqualityRun
 pub mod Renaming
+pub mod Same
 pub mod States

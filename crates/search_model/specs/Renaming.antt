@@ -13,17 +13,20 @@ use Rattle.search_model.specs.Solve.{IsSolved, atom_text}
 use Rattle.search_model.specs.declared.solve.Solved.{Solved}
 use Rattle.search_model.specs.declared.solve.Solved.TheVariants.{Accepted, Rejected, Spent, TooLong}
 
--- The two answers are the same: of one kind, with the same units, and with the same text of an accepted atom, each by its own table.
+-- The two answers are the same: of one kind, with the same units, and with the same text of an
+-- accepted atom, each by its own table.
 abbrev pub SameSolved : List (List ℕ) → List (List ℕ) → Solved → Solved → Type 0
-SameSolved names others (Accepted a u) (Accepted b v) = (atom_text names a ≡ atom_text others b) × (u ≡ v)
+SameSolved names others (Accepted a u) (Accepted b v) =
+    (atom_text names a ≡ atom_text others b) × (u ≡ v)
 SameSolved names others (Rejected u) (Rejected v) = u ≡ v
 SameSolved names others Spent Spent = Unit {0}
 SameSolved names others TooLong TooLong = Unit {0}
 SameSolved names others _ _ = ⊥
 
--- A definition and an atom are read from items, by the numbers of names in a table, and the search for the atom over the definition's clauses is
--- answered so within a budget.
-pub record IsAnswered (expected : Option Logic) (items question : List Item) (budget : ℕ) (names : List (List ℕ)) (answer : Solved) : Type 0 where
+-- A definition and an atom are read from items, by the numbers of names in a table, and the search
+-- for the atom over the definition's clauses is answered so within a budget.
+pub record IsAnswered (expected : Option Logic) (items question : List Item) (budget : ℕ)
+    (names : List (List ℕ)) (answer : Solved) : Type 0 where
   pub different : AreDifferent names
   pub meaning : Definition
   pub read : DefinitionIsRead expected items names meaning
@@ -37,5 +40,8 @@ pub record IsAnswered (expected : Option Logic) (items question : List Item) (bu
 
 -- the answer hangs on the items alone, and on no table
 abbrev pub AnsweredOnce : Type 0
-AnsweredOnce = (expected : Option Logic) (items question : List Item) (budget : ℕ) (names others : List (List ℕ)) (r s : Solved) → IsAnswered expected items question budget names r
+AnsweredOnce =
+    (expected : Option Logic) (items question : List Item) (budget : ℕ)
+    (names others : List (List ℕ)) (r s : Solved)
+    → IsAnswered expected items question budget names r
     → IsAnswered expected items question budget others s → SameSolved names others r s

@@ -2,7 +2,7 @@
 -- their steps.
 use Rattle.std.specs.Prelude.{ℕ, Bool, true, false, Option, Some, None}
 use Rattle.std.specs.Prelude.{List, [], ◌∷◌, ◌++◌, map, length, replicate}
-use Rattle.fpc_terms.specs.Term.{Term, Args, no_args, put}
+use Rattle.fpc_terms.specs.Term.{Term, Args, put}
 use Rattle.fpc_terms.specs.Open.{Level, later}
 use Rattle.fpc_terms.specs.Equality.{Equality}
 use Rattle.fpc_terms.specs.Run.{Ending, run}

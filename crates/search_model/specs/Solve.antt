@@ -8,7 +8,8 @@ use Rattle.clause_language.specs.declared.program.Program.{Program}
 use Rattle.clause_language.specs.LeastModel.{put_atom, Holds, fits}
 use Rattle.clause_language.specs.Text.{atom_before}
 use Rattle.search_model.specs.Run.{Ending, ended, spent}
-use Rattle.search_model.specs.Search.{SearchCalculus, call, Alternative, Answer, accepted, rejected, search}
+use Rattle.search_model.specs.Search.{SearchCalculus, call, Alternative, Answer, accepted}
+use Rattle.search_model.specs.Search.{rejected, search}
 use Rattle.search_model.specs.declared.solve.Solved.{Solved}
 use Rattle.search_model.specs.declared.solve.Solved.TheVariants.{Accepted, Rejected, Spent, TooLong}
 
@@ -49,13 +50,15 @@ abbrev pub text_limit : ℕ
 text_limit = 67108864
 
 -- the search is accepted with this atom, in so many units
-pub record IsAccepted (p : Program) (asked : Atom) (variables budget : ℕ) (a : Atom) (units : ℕ) : Type 0 where
+pub record IsAccepted (p : Program) (asked : Atom) (variables budget : ℕ) (a : Atom)
+    (units : ℕ) : Type 0 where
   pub found : Alternative Nothing Nothing
   pub ends : solving p.clauses budget asked variables ≡ ended (accepted found) units
   pub atom : a ≡ solved_atom p.ids.any asked found
 
 -- the search is accepted with an atom whose text is too long
-pub record IsTooLong (names : List (List ℕ)) (p : Program) (asked : Atom) (variables budget : ℕ) : Type 0 where
+pub record IsTooLong (names : List (List ℕ)) (p : Program) (asked : Atom)
+    (variables budget : ℕ) : Type 0 where
   pub atom : Atom
   pub units : ℕ
   pub is_accepted : IsAccepted p asked variables budget atom units
@@ -63,8 +66,10 @@ pub record IsTooLong (names : List (List ℕ)) (p : Program) (asked : Atom) (var
 
 -- the answer is the one of the search within the budget, with the names of a table
 abbrev pub IsSolved : List (List ℕ) → Program → Atom → ℕ → ℕ → Solved → Type 0
-IsSolved names p asked variables budget (Accepted a units) = IsAccepted p asked variables budget a units × (length (atom_text names a) ≤ text_limit)
-IsSolved names p asked variables budget (Rejected units) = solving p.clauses budget asked variables ≡ ended rejected units
+IsSolved names p asked variables budget (Accepted a units) =
+    IsAccepted p asked variables budget a units × (length (atom_text names a) ≤ text_limit)
+IsSolved names p asked variables budget (Rejected units) =
+    solving p.clauses budget asked variables ≡ ended rejected units
 IsSolved names p asked variables budget Spent = solving p.clauses budget asked variables ≡ spent
 IsSolved names p asked variables budget TooLong = IsTooLong names p asked variables budget
 
@@ -86,12 +91,17 @@ pub record IsSound (clauses : List Clause) (asked a : Atom) : Type 0 where
 -- no instance of the atom is in the least model
 abbrev pub IsRight : List Clause → Atom → Solved → Type 0
 IsRight clauses asked (Accepted a units) = IsSound clauses asked a
-IsRight clauses asked (Rejected units) = (s : ℕ → Term) → ((n : ℕ) → IsGround (s n)) → ¬ (Holds clauses (put_atom s asked))
+IsRight clauses asked (Rejected units) =
+    (s : ℕ → Term) → ((n : ℕ) → IsGround (s n)) → ¬ (Holds clauses (put_atom s asked))
 IsRight clauses asked Spent = Unit {0}
 IsRight clauses asked TooLong = (a : Atom) × IsSound clauses asked a
 
 -- An outcome with so many units is the same within each budget that has them, and each smaller
 -- budget is spent.
 abbrev pub OutcomeIsSettled : Type 0
-OutcomeIsSettled = (clauses : List Clause) (a : Atom) (variables budget units : ℕ) (answer : Answer Nothing Nothing) → solving clauses budget a variables ≡ ended answer units
-    → ((more : ℕ) → units ≤ more → solving clauses more a variables ≡ ended answer units) × ((fewer : ℕ) → fewer < units → solving clauses fewer a variables ≡ spent)
+OutcomeIsSettled =
+    (clauses : List Clause) (a : Atom) (variables budget units : ℕ)
+    (answer : Answer Nothing Nothing)
+    → solving clauses budget a variables ≡ ended answer units
+    → ((more : ℕ) → units ≤ more → solving clauses more a variables ≡ ended answer units)
+    × ((fewer : ℕ) → fewer < units → solving clauses fewer a variables ≡ spent)

@@ -1,5 +1,5 @@
 -- The values of the program's states as states of the search.
-use Rattle.std.specs.Prelude.{◌≡◌, ℕ, zero, suc, ◌+◌, ◌-◌, Bool, true, false, nat_eq, if◌then◌else◌}
+use Rattle.std.specs.Prelude.{◌≡◌, ℕ, zero, suc, ◌-◌, Bool, true, false, nat_eq, if◌then◌else◌}
 use Rattle.std.specs.Prelude.{Option, Some, None, List, [], ◌∷◌, map, reverse, set}
 use Rattle.fpc_terms.specs.declared.cell.Cell.{Cell}
 use Rattle.fpc_terms.specs.declared.cell.Cell.TheVariants.{Eigen, Bound, Var, App}
@@ -16,7 +16,6 @@ use Rattle.search_model.specs.GoalItems.{goal_in, goal_over, list_in, list_over}
 use Rattle.search_model.specs.Search as search
 use Rattle.search_model.specs.Solve.{Nothing}
 use Rattle.search_model.specs.Table.{ItemOn}
-use Rattle.search_model.specs.declared.goals.Alternatives.{Alternatives}
 use Rattle.search_model.specs.declared.goals.GoalItem.{GoalItem}
 use Rattle.search_model.specs.declared.goals.Goals.{Goals}
 use Rattle.search_model.specs.declared.alternative.Alternative.{Alternative}
@@ -62,7 +61,8 @@ abbrev pub lower_cells : Level → List Cell → List Level → List Level
 lower_cells l [] levels = levels
 lower_cells l (Eigen n ∷ cells) levels = lower_cells l cells levels
 lower_cells l (Bound k ∷ cells) levels = lower_cells l cells levels
-lower_cells l (Var n ∷ cells) levels = lower_cells l cells (set levels n (lower l (level_of levels n)))
+lower_cells l (Var n ∷ cells) levels =
+    lower_cells l cells (set levels n (lower l (level_of levels n)))
 lower_cells l (App f k ∷ cells) levels = lower_cells l cells levels
 
 -- the arguments of an application; none of another term
@@ -97,7 +97,8 @@ is_clash v l (App f k) = false
 abbrev pub walk_through : ℕ → Level → List Cell → ℕ → Walked × ℕ
 walk_through v l [] units = (Passed, units)
 walk_through v l (c ∷ cells) zero = (OutOfUnits, 0)
-walk_through v l (c ∷ cells) (suc units) = if is_clash v l c then (Clashed, units) else walk_through v l cells units
+walk_through v l (c ∷ cells) (suc units) =
+    if is_clash v l c then (Clashed, units) else walk_through v l cells units
 
 -- the run of the search from a state
 abbrev pub running : (C : search.SearchCalculus) → List Clause → ℕ

@@ -45,8 +45,8 @@ abbrev pub AnyTerm : Term → Type 0
 AnyTerm t = Unit {0}
 
 -- A table: sequents with terms for their variables, the goal lists of items, and what completes
--- them. On a sequent that gives no item of a kind, there is no goal list and nothing completes
--- it.
+-- them. On a sequent of another form there is no goal list and nothing completes it. Of the sequent
+-- of a choice only the stored formulas and the focus count.
 pub record Table : Type 1 where
   pub SequentOf : Type 0
   pub put_sequent : (ℕ → Term) → SequentOf → SequentOf

@@ -55,7 +55,9 @@ fn bound_goal<C: Calculus>(
     variable: u64,
     term: &TermBuf,
 ) -> Result<GoalItem<C::Sequent>, OutOfMemory>
-    ensures { (p : Program) → IfOk result (λ g. goal_of (C.sequent_of p) g ≡ put_goal (calculus_of (C.table p)) (at_one variable term.now) (goal_of (C.sequent_of p) goal.now)) }
+    ensures { (p : Program) → IfOk result (λ g. goal_of (C.sequent_of p) g
+        ≡ put_goal (calculus_of (C.table p)) (at_one variable term.now)
+        (goal_of (C.sequent_of p) goal.now)) }
 {
     match goal {
         GoalItem::Seq(g) => Ok(GoalItem::Seq(SequentGoal {
@@ -113,7 +115,9 @@ fn bound_goals<C: Calculus>(
     variable: u64,
     term: &TermBuf,
 ) -> Result<Vec<GoalItem<C::Sequent>>, OutOfMemory>
-    ensures { (p : Program) → IfOk result (λ gs. map (goal_of (C.sequent_of p)) gs.items ≡ map (put_goal (calculus_of (C.table p)) (at_one variable term.now)) (map (goal_of (C.sequent_of p)) goals.now)) }
+    ensures { (p : Program) → IfOk result (λ gs. map (goal_of (C.sequent_of p)) gs.items
+        ≡ map (put_goal (calculus_of (C.table p)) (at_one variable term.now))
+        (map (goal_of (C.sequent_of p)) goals.now)) }
 {
     let mut bound = Vec::new(alloc);
     for goal in goals {
@@ -201,7 +205,8 @@ fn copied_goal<C: Calculus>(
     calculus: &C,
     goal: &GoalItem<C::Sequent>,
 ) -> Result<GoalItem<C::Sequent>, OutOfMemory>
-    ensures { (p : Program) → IfOk result (λ g. goal_of (C.sequent_of p) g ≡ goal_of (C.sequent_of p) goal.now) }
+    ensures { (p : Program) → IfOk result (λ g. goal_of (C.sequent_of p) g
+        ≡ goal_of (C.sequent_of p) goal.now) }
 {
     match goal {
         GoalItem::Seq(g) => Ok(GoalItem::Seq(SequentGoal {
@@ -254,7 +259,8 @@ fn copied_goals<C: Calculus>(
     calculus: &C,
     goals: &[GoalItem<C::Sequent>],
 ) -> Result<Vec<GoalItem<C::Sequent>>, OutOfMemory>
-    ensures { (p : Program) → IfOk result (λ gs. map (goal_of (C.sequent_of p)) gs.items ≡ map (goal_of (C.sequent_of p)) goals.now) }
+    ensures { (p : Program) → IfOk result (λ gs. map (goal_of (C.sequent_of p)) gs.items
+        ≡ map (goal_of (C.sequent_of p)) goals.now) }
 {
     let mut copies = Vec::new(alloc);
     for goal in goals {
@@ -269,7 +275,8 @@ pub(crate) fn copied<C: Calculus>(
     calculus: &C,
     alternative: &Alternative<C::Sequent>,
 ) -> Result<Alternative<C::Sequent>, OutOfMemory>
-    ensures { (p : Program) → IfOk result (λ a. alternative_of (C.sequent_of p) a ≡ alternative_of (C.sequent_of p) alternative.now) }
+    ensures { (p : Program) → IfOk result (λ a. alternative_of (C.sequent_of p) a
+        ≡ alternative_of (C.sequent_of p) alternative.now) }
 {
     Ok(Alternative {
         goals: copied_goals(alloc, calculus, alternative.goals.as_slice())?,
@@ -287,7 +294,9 @@ pub(crate) fn bound_to<C: Calculus>(
     variable: u64,
     term: &TermBuf,
 ) -> Result<Alternative<C::Sequent>, OutOfMemory>
-    ensures { (p : Program) → IfOk result (λ a. alternative_of (C.sequent_of p) a ≡ bound_to (calculus_of (C.table p)) variable term.now (alternative_of (C.sequent_of p) alternative)) }
+    ensures { (p : Program) → IfOk result (λ a. alternative_of (C.sequent_of p) a
+        ≡ bound_to (calculus_of (C.table p)) variable term.now
+        (alternative_of (C.sequent_of p) alternative)) }
 {
     let Alternative {
         goals,

@@ -1,12 +1,15 @@
-//! The alternatives by which clauses answer the call of an atom, and those of the goal lists of items.
-ghost use Rattle.std.specs.Prelude.{◌≡◌, ℕ, List, ◌++◌, ◌∷◌, [], IfOk, OnOk, map, replicate, length};
+//! The alternatives by which clauses answer the call of an atom, and those of the goal lists of
+//! items.
+ghost use Rattle.std.specs.Prelude.{◌≡◌, ◌++◌, ◌∷◌, [], IfOk, OnOk, map, replicate, length};
 ghost use Rattle.std.specs.Prelude.{None as NoLevel};
 ghost use Rattle.fpc_terms.specs.Open.{later};
 ghost use Rattle.fpc_terms.specs.Term.{arguments_in};
 ghost use Rattle.clause_language.specs.declared.program.Program.{Program};
 ghost use Rattle.clause_language.specs.LeastModel.{fits, put_atom};
-ghost use Rattle.search_model.specs.Search.{by_clause, by_clauses, call as a_call, equalities, equate, extended, where_it_fits, with_goals};
-ghost use Rattle.search_model.specs.States.{alternative_of, alternatives_of, goal_of, goals_of, list_of};
+ghost use Rattle.search_model.specs.Search.{by_clause, by_clauses, call as a_call, equalities};
+ghost use Rattle.search_model.specs.Search.{equate, extended, where_it_fits, with_goals};
+ghost use Rattle.search_model.specs.States.{alternative_of, alternatives_of, goal_of, goals_of};
+ghost use Rattle.search_model.specs.States.{list_of};
 ghost use Rattle.search_model.specs.Table.{calculus_of};
 
 use crate::alternative::{Alternative, copied, copied_term};
@@ -26,7 +29,8 @@ fn push_equality<C: Calculus>(
     left: &TermBuf,
     right: &TermBuf,
 ) -> Result<(), OutOfMemory>
-    ensures { (p : Program) → OnOk result (goals_of (C.sequent_of p) goals.new.items ≡ equate left.now right.now ∷ goals_of (C.sequent_of p) goals.old.items) }
+    ensures { (p : Program) → OnOk result (goals_of (C.sequent_of p) goals.new.items
+        ≡ equate left.now right.now ∷ goals_of (C.sequent_of p) goals.old.items) }
 {
     goals.push(GoalItem::Eq(copied_term(left)?, copied_term(right)?))?;
     Ok(())
@@ -39,7 +43,8 @@ pub(crate) fn push_equalities<C: Calculus>(
     right: &[TermBuf],
 ) -> Result<(), OutOfMemory>
     requires { length left.now ≡ length right.now }
-    ensures { (p : Program) → OnOk result (goals_of (C.sequent_of p) goals.new.items ≡ equalities left.now right.now (goals_of (C.sequent_of p) goals.old.items)) }
+    ensures { (p : Program) → OnOk result (goals_of (C.sequent_of p) goals.new.items
+        ≡ equalities left.now right.now (goals_of (C.sequent_of p) goals.old.items)) }
 {
     let mut n = left.len();
     while n > 0 {
@@ -66,7 +71,8 @@ fn push_call<C: Calculus>(
     atom: &Atom,
     offset: u64,
 ) -> Result<(), OutOfMemory>
-    ensures { (p : Program) → OnOk result (goals_of (C.sequent_of p) goals.new.items ≡ a_call (put_atom (later offset) atom.now) ∷ goals_of (C.sequent_of p) goals.old.items) }
+    ensures { (p : Program) → OnOk result (goals_of (C.sequent_of p) goals.new.items
+        ≡ a_call (put_atom (later offset) atom.now) ∷ goals_of (C.sequent_of p) goals.old.items) }
 {
     goals.push(GoalItem::Call(renamed(alloc, atom, offset)?))?;
     Ok(())
@@ -79,7 +85,9 @@ fn push_calls<C: Calculus>(
     body: &[Atom],
     offset: u64,
 ) -> Result<(), OutOfMemory>
-    ensures { (p : Program) → OnOk result (goals_of (C.sequent_of p) goals.new.items ≡ map (λ b. a_call (put_atom (later offset) b)) body.now ++ goals_of (C.sequent_of p) goals.old.items) }
+    ensures { (p : Program) → OnOk result (goals_of (C.sequent_of p) goals.new.items
+        ≡ map (λ b. a_call (put_atom (later offset) b)) body.now
+        ++ goals_of (C.sequent_of p) goals.old.items) }
 {
     let mut n = body.len();
     while n > 0 {
@@ -112,7 +120,9 @@ fn answered<C: Calculus>(
     rest: &Alternative<C::Sequent>,
 ) -> Result<Alternative<C::Sequent>, OutOfMemory>
     requires { length atom.now.arguments ≡ length clause.now.head.arguments }
-    ensures { (p : Program) → IfOk result (λ a. alternative_of (C.sequent_of p) a ≡ extended (alternative_of (C.sequent_of p) rest.now) (by_clause (calculus_of (C.table p)) atom.now (length rest.now.levels.items) clause.now)) }
+    ensures { (p : Program) → IfOk result (λ a. alternative_of (C.sequent_of p) a
+        ≡ extended (alternative_of (C.sequent_of p) rest.now)
+        (by_clause (calculus_of (C.table p)) atom.now (length rest.now.levels.items) clause.now)) }
 {
     let mut next = copied(alloc, calculus, rest)?;
     let offset = next.levels.len() as u64;
@@ -141,7 +151,9 @@ fn push_answered<C: Calculus>(
     stack: &mut Vec<Alternative<C::Sequent>>,
 ) -> Result<(), OutOfMemory>
     ensures { (p : Program) → OnOk result (alternatives_of (C.sequent_of p) stack.new.items
-        ≡ map (extended (alternative_of (C.sequent_of p) rest.now)) (where_it_fits (calculus_of (C.table p)) (fits atom.now clause.now.head) (by_clause (calculus_of (C.table p)) atom.now (length rest.now.levels.items) clause.now) [])
+        ≡ map (extended (alternative_of (C.sequent_of p) rest.now))
+        (where_it_fits (calculus_of (C.table p)) (fits atom.now clause.now.head)
+        (by_clause (calculus_of (C.table p)) atom.now (length rest.now.levels.items) clause.now) [])
         ++ alternatives_of (C.sequent_of p) stack.old.items) }
 {
     if fits(atom, &clause.head) {
@@ -162,7 +174,8 @@ pub(crate) fn push_all_answered<C: Calculus>(
 ) -> Result<(), OutOfMemory>
     ensures { (p : Program) → OnOk result (alternatives_of (C.sequent_of p) stack.new.items
         ≡ map (extended (alternative_of (C.sequent_of p) rest.now))
-        (by_clauses (calculus_of (C.table p)) fits atom.now (length rest.now.levels.items) clauses.now)
+        (by_clauses (calculus_of (C.table p)) fits atom.now (length rest.now.levels.items)
+        clauses.now)
         ++ alternatives_of (C.sequent_of p) stack.old.items) }
 {
     let mut n = clauses.len();
@@ -181,7 +194,10 @@ pub(crate) fn with_parts<C: Calculus>(
     right: &TermBuf,
 ) -> Result<Alternative<C::Sequent>, OutOfMemory>
     requires { length (arguments_in left.now) ≡ length (arguments_in right.now) }
-    ensures { (p : Program) → IfOk result (λ a. alternative_of (C.sequent_of p) a ≡ with_goals (alternative_of (C.sequent_of p) alternative) (equalities (arguments_in left.now) (arguments_in right.now) (goals_of (C.sequent_of p) alternative.goals.items))) }
+    ensures { (p : Program) → IfOk result (λ a. alternative_of (C.sequent_of p) a
+        ≡ with_goals (alternative_of (C.sequent_of p) alternative)
+        (equalities (arguments_in left.now) (arguments_in right.now)
+        (goals_of (C.sequent_of p) alternative.goals.items))) }
 {
     let lefts = arguments(alloc, left)?;
     let rights = arguments(alloc, right)?;
@@ -195,7 +211,8 @@ fn push_goals<C: Calculus>(
     goals: &mut Vec<GoalItem<C::Sequent>>,
     items: Vec<GoalItem<C::Sequent>>,
 ) -> Result<(), OutOfMemory>
-    ensures { (p : Program) → OnOk result (goals_of (C.sequent_of p) goals.new.items ≡ map (goal_of (C.sequent_of p)) items.items ++ goals_of (C.sequent_of p) goals.old.items) }
+    ensures { (p : Program) → OnOk result (goals_of (C.sequent_of p) goals.new.items
+        ≡ map (goal_of (C.sequent_of p)) items.items ++ goals_of (C.sequent_of p) goals.old.items) }
 {
     let mut items = items;
     while let Some(item) = items.pop() {
@@ -211,7 +228,8 @@ fn extended<C: Calculus>(
     rest: &Alternative<C::Sequent>,
     list: Goals<C::Sequent>,
 ) -> Result<Alternative<C::Sequent>, OutOfMemory>
-    ensures { (p : Program) → IfOk result (λ a. alternative_of (C.sequent_of p) a ≡ extended (alternative_of (C.sequent_of p) rest.now) (list_of (C.sequent_of p) list)) }
+    ensures { (p : Program) → IfOk result (λ a. alternative_of (C.sequent_of p) a
+        ≡ extended (alternative_of (C.sequent_of p) rest.now) (list_of (C.sequent_of p) list)) }
 {
     let Goals { items, levels } = list;
     let mut next = copied(alloc, calculus, rest)?;
@@ -229,7 +247,8 @@ pub(crate) fn push_all_extended<C: Calculus>(
     stack: &mut Vec<Alternative<C::Sequent>>,
 ) -> Result<(), OutOfMemory>
     ensures { (p : Program) → OnOk result (alternatives_of (C.sequent_of p) stack.new.items
-        ≡ map (extended (alternative_of (C.sequent_of p) rest.now)) (map (list_of (C.sequent_of p)) lists.lists.items)
+        ≡ map (extended (alternative_of (C.sequent_of p) rest.now))
+        (map (list_of (C.sequent_of p)) lists.lists.items)
         ++ alternatives_of (C.sequent_of p) stack.old.items) }
 {
     let mut lists = lists.lists;

@@ -7,9 +7,12 @@ use crate::goals::{Alternatives, GoalItem, SequentGoal};
 use clause_language::program::Program;
 use fpc_base::outside::OutOfMemory;
 use fpc_terms::term::TermBuf;
+use polarised_formulas::formula::Formula;
+use polarised_formulas::logic::Logic;
 use std::alloc::Global;
 
-/// The one sequent of the calculus, which has no goal list. A search over clauses alone never meets it.
+/// The one sequent of the calculus, which has no goal list. A search over clauses alone never meets
+/// it.
 #[derive(Clone, Copy, Debug)]
 pub struct NoSequent;
 
@@ -20,9 +23,19 @@ pub struct ClausesAlone;
 impl Calculus for ClausesAlone {
     type Sequent = NoSequent;
 
+    ghost takes = { λ l. Unit {0} };
+
     ghost table = { λ p. no_table };
 
     ghost sequent_of = { λ p q. tt };
+
+    fn logic(&self) -> Logic {
+        Logic::Lkf
+    }
+
+    fn start(&self, alloc: Global, goal: &Formula) -> Result<NoSequent, OutOfMemory> {
+        Ok(NoSequent)
+    }
 
     fn expand(
         &self,

@@ -55,7 +55,8 @@ fn same_if(alike: bool) -> Comparison
 
 /// Compares a variable with the first cell of another term.
 fn compare_with(left: u64, right: Cell) -> Comparison
-    ensures { (t u : Term) → t ≡ variable left → first_cell u ≡ right → equality_meant result t u ≡ equality t u }
+    ensures { (t u : Term) → t ≡ variable left → first_cell u ≡ right
+        → equality_meant result t u ≡ equality t u }
 {
     match right {
         Cell::Var(right) => compare_variables(left, right),
@@ -65,7 +66,8 @@ fn compare_with(left: u64, right: Cell) -> Comparison
 
 /// Compares two applications by their names and numbers of arguments.
 fn compare_applications(alike: bool) -> Comparison
-    ensures { (t u : Term) → equality_meant result t u ≡ only_if alike (parts (args_in t) (args_in u)) }
+    ensures { (t u : Term) → equality_meant result t u
+        ≡ only_if alike (parts (args_in t) (args_in u)) }
 {
     if alike {
         return Comparison::Parts;
@@ -75,7 +77,8 @@ fn compare_applications(alike: bool) -> Comparison
 
 /// Compares the first cells of two terms.
 fn compare_cells(left: Cell, right: Cell) -> Comparison
-    ensures { (t u : Term) → first_cell t ≡ left → first_cell u ≡ right → equality_meant result t u ≡ equality t u }
+    ensures { (t u : Term) → first_cell t ≡ left → first_cell u ≡ right
+        → equality_meant result t u ≡ equality t u }
 {
     match left {
         Cell::Var(number) => compare_with(number, right),

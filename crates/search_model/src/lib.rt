@@ -8,9 +8,14 @@ pub mod clauses_alone;
 mod comparison;
 pub mod goals;
 pub mod laws;
-pub mod search;
+pub mod lines;
+pub mod plain;
+mod search;
 pub mod solve;
 mod steps;
+pub mod stored;
+pub mod substitution;
 mod walk;
 
+pub use plain::{Outcome, Trace, plain_search};
 pub use solve::{Solved, plain_solve};

@@ -10,7 +10,7 @@ ghost use Rattle.search_model.specs.States.{IsFoundAlone};
 use crate::alternative::{copied_atom, copied_terms};
 use crate::clauses_alone::ClausesAlone;
 use crate::goals::GoalItem;
-use crate::search::{Found, plain_search};
+use crate::search::{Found, few_parameters, search_goal};
 use clause_language::atom::Atom;
 use clause_language::print::atom_room;
 use clause_language::program::Program;
@@ -47,12 +47,14 @@ fn search_for(
 ) -> Result<Found, OutOfMemory>
     requires program { IsOpenProgram program.now }
     requires is_open { AreOpen variables atom.now.arguments }
-    ensures { IfOk result (λ found. IsFoundAlone found (solving program.now.clauses budget atom.now variables)) }
+    ensures { IfOk result (λ found. IsFoundAlone found
+        (solving program.now.clauses budget atom.now variables)) }
 {
+    few_parameters(program);
     let question = copied_atom(atom)?;
     let asked = copied_terms(&atom.arguments)?;
     let goal = GoalItem::Call(question);
-    plain_search(
+    search_goal(
         alloc,
         &ClausesAlone,
         program,
@@ -65,7 +67,10 @@ fn search_for(
 
 /// The atom with these arguments, and a constant for each variable in them.
 fn closed(alloc: Global, atom: &Atom, asked: &Terms, any: NameId) -> Result<Atom, OutOfMemory>
-    ensures { IfOk result (λ a. a ≡ record { name = atom.now.name; arguments = map (put (constant any)) asked.now }) }
+    ensures { IfOk result (λ a. a ≡ record {
+      name = atom.now.name;
+      arguments = map (put (constant any)) asked.now;
+    }) }
 {
     Ok(Atom {
         name: atom.name,
@@ -73,9 +78,10 @@ fn closed(alloc: Global, atom: &Atom, asked: &Terms, any: NameId) -> Result<Atom
     })
 }
 
-/// Searches for an instance of an atom that holds, depth first, the clauses in order. The answer is that of the definition: one unit for each call and each
-/// equality that is taken, and one for each node of a term that is looked through before a variable becomes it. Each alternative is a copy, so
-/// time and memory grow with the size of the alternatives.
+/// Searches for an instance of an atom that holds, depth first, the clauses in order. The answer is
+/// that of the definition: one unit for each call and each equality that is taken, and one for each
+/// node of a term that is looked through before a variable becomes it. Each alternative is a copy,
+/// so time and memory grow with the size of the alternatives.
 pub fn plain_solve(
     alloc: Global,
     names: &Names,

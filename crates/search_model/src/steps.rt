@@ -1,75 +1,15 @@
 //! Copies of steps, and terms substituted for variables in steps.
-ghost use Rattle.std.specs.Prelude.{◌≡◌, ◌++◌, [], IfOk, OnOk, map};
-ghost use Rattle.std.specs.List.{flat_map};
-ghost use Rattle.fpc_terms.specs.Open.{at_one};
-ghost use Rattle.polarised_formulas.specs.Formula.{inside_before};
-ghost use Rattle.search_model.specs.OpenFormula.{put_formula, put_step};
-ghost use Rattle.search_model.specs.NodePut.{node_put};
+ghost use Rattle.std.specs.Prelude.{◌≡◌, IfOk, map};
+ghost use Rattle.fpc_terms.specs.Open.{at_one, constant};
+ghost use Rattle.search_model.specs.OpenFormula.{put_step};
 
+use crate::substitution::{formula_with_constant, formula_with_term};
 use fpc_base::outside::OutOfMemory;
-use fpc_terms::cell::Cell;
-use fpc_terms::substitution::with_term;
+use fpc_terms::name::NameId;
+use fpc_terms::substitution::{with_constant, with_term};
 use fpc_terms::term::TermBuf;
-use polarised_formulas::formula::Formula;
-use polarised_formulas::node::Node;
 use polarised_formulas::step::Step;
 use std::alloc::Global;
-
-/// Adds cells to nodes.
-fn push_cells(nodes: &mut Vec<Node>, cells: &[Cell]) -> Result<(), OutOfMemory>
-    ensures { OnOk result (nodes.new.items ≡ nodes.old.items ++ inside_before cells.now []) }
-{
-    for cell in cells {
-        nodes.push(Node::Inside(*cell))?;
-    }
-    Ok(())
-}
-
-/// Adds a node to nodes; the cells of a term in place of the variable.
-fn push_with_term(
-    nodes: &mut Vec<Node>,
-    node: Node,
-    variable: u64,
-    by: &TermBuf,
-) -> Result<(), OutOfMemory>
-    ensures { OnOk result (nodes.new.items ≡ nodes.old.items ++ node_put (at_one variable by.now) node) }
-{
-    if let Node::Inside(Cell::Var(number)) = node {
-        if number == variable {
-            return push_cells(nodes, by.cells());
-        }
-    }
-    nodes.push(node)?;
-    Ok(())
-}
-
-fn nodes_with_term(
-    alloc: Global,
-    nodes: &[Node],
-    variable: u64,
-    by: &TermBuf,
-) -> Result<Vec<Node>, OutOfMemory>
-    ensures { IfOk result (λ new. new.items ≡ flat_map (node_put (at_one variable by.now)) nodes.now) }
-{
-    let mut new = Vec::new(alloc);
-    for node in nodes {
-        push_with_term(&mut new, *node, variable, by)?;
-    }
-    Ok(new)
-}
-
-/// The formula with a term for a variable. Time and memory are linear in the size of what comes out.
-pub fn formula_with_term(
-    alloc: Global,
-    formula: &Formula,
-    variable: u64,
-    by: &TermBuf,
-) -> Result<Formula, OutOfMemory>
-    ensures { IfOk result (λ f. f ≡ put_formula (at_one variable by.now) formula.now) }
-{
-    let nodes = nodes_with_term(alloc, formula.nodes(), variable, by)?;
-    Formula::from_nodes(alloc, nodes.as_slice())
-}
 
 /// A copy of a step.
 pub(crate) fn copied_step(step: &Step) -> Result<Step, OutOfMemory>
@@ -160,4 +100,21 @@ pub(crate) fn steps_with_term(
         found.push(step_with_term(alloc, step, variable, by)?)?;
     }
     Ok(found)
+}
+
+/// The step with a constant for each variable.
+pub(crate) fn step_with_constant(
+    alloc: Global,
+    step: &Step,
+    name: NameId,
+) -> Result<Step, OutOfMemory>
+    ensures { IfOk result (λ e. e ≡ put_step (constant name) step.now) }
+{
+    match step {
+        Step::Exists(term) => Ok(Step::Exists(with_constant(alloc, term, name)?)),
+        Step::Cut(formula) => Ok(Step::Cut(formula_with_constant(alloc, formula, name)?)),
+        Step::FocLEvery(term) => Ok(Step::FocLEvery(with_constant(alloc, term, name)?)),
+        Step::FocRExists(term) => Ok(Step::FocRExists(with_constant(alloc, term, name)?)),
+        other => copied_step(other),
+    }
 }

@@ -1,5 +1,5 @@
 -- What is read for a search stays read as the table of names grows.
-use Rattle.std.proofs.Common.{◌≡◌, ℕ, ◌<◌, ◌≤◌, List, [], ◌∷◌, length, Some, None, Result, Ok, Err, IfOk, arith, refl, subst, inl, inr}
+use Rattle.std.proofs.Common.{◌≡◌, ◌⊎◌, ℕ, ◌<◌, ◌≤◌, List, [], ◌∷◌, length, Some, None, Result, Ok, Err, IfOk, arith, refl, subst, inl, inr}
 use Rattle.std.specs.Prelude.{slice_get, codes}
 use Rattle.std.proofs.lemmas.Option.{slice_get_within, slice_get-get_or}
 use Rattle.fpc_base.specs.declared.outside.OutOfMemory.{OutOfMemory}
@@ -23,10 +23,14 @@ use Rattle.search_model.specs.Solve.{IsSolved}
 use Rattle.search_model.specs.declared.solve.Solved.{Solved}
 use Rattle.search_model.specs.declared.solve.Solved.TheVariants.{Accepted, Rejected, Spent, TooLong}
 use Rattle.fpc_cli.specs.declared.answer.Answer.{Answer}
-use Rattle.fpc_cli.specs.Command.{solve}
-use Rattle.fpc_cli.specs.Inputs.{IsReadWhole}
+use Rattle.fpc_cli.specs.declared.answer.Role.TheVariants.{Atom}
+use Rattle.fpc_cli.specs.Command.{Chosen, solve}
+use Rattle.fpc_cli.specs.Grammars as grammar
+use Rattle.fpc_cli.specs.Inputs.{at_hand, Comes}
+use Rattle.fpc_cli.specs.Origins.{AreHad, AreNotHad, AreHadAndRefused}
 use Rattle.fpc_cli.specs.Run.{IsCaused}
-use Rattle.fpc_cli.specs.commands.Solve.{IsRead, IsProgramOf, IsEndNamed, IsSearch, answer_of, IsAtomAnswer, IsAnswerTo}
+use Rattle.fpc_cli.specs.commands.Solve.{IsRead, IsProgramOf, IsEndNamed, IsSearch, EndsSolve, answer_of, IsAtomAnswer}
+use Rattle.fpc_cli.proofs.OriginFacts.{good, decides}
 use Rattle.search_model.proofs.NamesKept.{accepted-named}
 
 -- a table that grows keeps its length at least
@@ -117,10 +121,32 @@ atom-answered budget bytes word text same old mid new grows grows' differ d r a 
       },
     ))
 
--- the answer to a definition that was read whole, and to the word of an atom
-pub caused-by : (content : List ℕ → Content) (budget : ℕ) (file word : List ℕ) (old new : Outside) (bytes : List ℕ) (answer : Answer)
-    → IsReadWhole (content file) file old new bytes → IsAnswerTo budget bytes word answer → IsCaused (solve budget file word) content old new answer
-caused-by content budget file word old new bytes answer whole (inl refusal) = inl (inr (record { bytes = bytes; whole = whole; refusal = refusal }))
-caused-by content budget file word old new bytes answer whole (inr (good, inl refusal)) = inr (new, (bytes, ((whole, good), inl (refl, refusal))))
-caused-by content budget file word old new bytes answer whole (inr (good, inr (small, atom, search))) =
-    inr (new, (bytes, ((whole, good), inr (new, (word, ((refl, refl, (small, atom)), record { still = refl; searched = inr search }))))))
+module _ (content : List ℕ → Content) (budget : ℕ) (chosen : Chosen) (word : List ℕ) where
+  -- the answer to the word comes after a definition
+  answer-comes : (bytes : List ℕ) (now : Outside) (answer : Answer) → IsAtomAnswer budget bytes word answer
+      → Comes content (EndsSolve budget) (bytes ∷ []) (at_hand Atom word (λ earlier. grammar.atom) ∷ []) now now answer
+  answer-comes bytes now answer (inl refusal) = inl (refl, refusal)
+  answer-comes bytes now answer (inr (small, whole, search)) = inr (now, (word, ((refl, refl, (small, whole)), record { still = refl; searched = inr search })))
+
+  -- the answer to a definition that was read, and to the word of an atom
+  pub caused-by : (old new : Outside) (names : List (List ℕ)) (d : definition.Definition) (answer : Answer)
+      → (bytes : List ℕ) × (AreHad chosen content old new bytes × DefinitionIsRead None (items_of bytes) names d)
+      → ((bytes : List ℕ) → DefinitionIsRead None (items_of bytes) names d → IsAtomAnswer budget bytes word answer)
+      → IsCaused (solve budget chosen word) content old new answer
+  caused-by old new names d answer (bytes, (had, read)) answered =
+      inr (
+        new,
+        (
+          bytes,
+          (
+            good content [] (grammar.definition None) old new chosen bytes had (read.written, read.reads),
+            answer-comes bytes new answer (answered bytes read),
+          ),
+        ),
+      )
+
+  -- the answer to a definition that could not be had, or is refused
+  pub caused-without : (old new : Outside) (answer : Answer)
+      → AreNotHad chosen content old new answer ⊎ AreHadAndRefused chosen (grammar.definition None) content old new answer
+      → IsCaused (solve budget chosen word) content old new answer
+  caused-without old new answer h = inl (decides content [] (grammar.definition None) old new chosen answer h)

@@ -41,7 +41,7 @@ pub read-whole : (bytes : List ℕ) (names : List (List ℕ)) (goal : Formula) �
 read-whole bytes names goal h = (h.written.formula, read-problem bytes names goal h)
 
 -- a goal stays read as the table grows
-read-grows : (known names : List (List ℕ)) (bytes : List ℕ) (goal : Formula) → Grows known names → ProblemIsRead (items_of bytes) known Lkf goal
+pub read-grows : (known names : List (List ℕ)) (bytes : List ℕ) (goal : Formula) → Grows known names → ProblemIsRead (items_of bytes) known Lkf goal
     → ProblemIsRead (items_of bytes) names Lkf goal
 read-grows known names bytes goal grows h = record {
   written = h.written;

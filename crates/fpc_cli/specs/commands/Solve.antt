@@ -17,9 +17,11 @@ use Rattle.search_model.specs.declared.solve.Solved.TheVariants as solved
 use Rattle.fpc_base.specs.Outside.{Outside}
 use Rattle.fpc_cli.specs.declared.answer.Answer.{Answer}
 use Rattle.fpc_cli.specs.declared.answer.Answer.TheVariants.{Holds, NotProved, BudgetSpent, TooLong, OutOfMemory}
-use Rattle.fpc_cli.specs.declared.answer.Role.TheVariants.{Definition, Atom}
+use Rattle.fpc_cli.specs.declared.answer.Role.TheVariants.{Atom}
+use Rattle.fpc_cli.specs.Command.{Chosen}
 use Rattle.fpc_cli.specs.Grammars as grammar
-use Rattle.fpc_cli.specs.Inputs.{source, at_hand, Task, IsRefusal}
+use Rattle.fpc_cli.specs.Inputs.{at_hand, Task, IsRefusal}
+use Rattle.fpc_cli.specs.Origins.{definition_input}
 
 -- some items are those of the definition, by the numbers of names in a table
 abbrev pub IsRead : List (List ℕ) → definition.Definition → Type 0
@@ -100,9 +102,9 @@ SolveIsDue budget (bytes ∷ word ∷ []) answer = IsItsSearch budget bytes word
 SolveIsDue budget _ answer = ⊥
 
 -- `solve` reads a definition, and then the word of an atom
-abbrev pub solve_task : ℕ → (definition atom : List ℕ) → Task
-solve_task budget file word = record {
-  inputs = source Definition file (λ earlier. grammar.definition)
+abbrev pub solve_task : ℕ → (definition : Chosen) → (atom : List ℕ) → Task
+solve_task budget chosen word = record {
+  inputs = definition_input chosen (λ earlier. grammar.definition None)
       ∷ at_hand Atom word (λ earlier. grammar.atom) ∷ [];
   Ends = λ content. EndsSolve budget;
   Due = λ content. SolveIsDue budget;
@@ -115,10 +117,3 @@ IsAtomAnswer budget bytes word answer =
     IsRefusal Atom grammar.atom word answer
     ⊎ ((length word ≤ 16777216) × grammar.IsWholeAtom word
     × IsSearchAnswer budget bytes word answer)
-
--- The answer to the bytes of a definition's file and the word of an atom: the refusal of the bytes,
--- or, where they are whole, the answer to the word; or memory ran out.
-abbrev pub IsAnswerTo : ℕ → List ℕ → List ℕ → Answer → Type 0
-IsAnswerTo budget bytes word answer =
-    IsRefusal Definition grammar.definition bytes answer
-    ⊎ (grammar.IsWholeDefinition bytes × IsAtomAnswer budget bytes word answer)

@@ -1,5 +1,5 @@
 //! `format`: the printed forms of files.
-ghost use Rattle.std.specs.Prelude.{◌≡◌, ◌≤◌, IfOk, IfErr, length};
+ghost use Rattle.std.specs.Prelude.{◌≡◌, ◌≤◌, [], IfOk, IfErr, None, length};
 ghost use Rattle.fpc_cli.specs.Command.{format as asked_to_format};
 ghost use Rattle.fpc_cli.specs.Grammars.{grammar_of, problem, definition, certificate};
 ghost use Rattle.fpc_cli.specs.Inputs.{IsParseRefusal};
@@ -43,7 +43,7 @@ fn printed_problem(alloc: Global, bytes: &[u8]) -> Result<Vec<u8>, ParseRefusal>
 fn printed_definition(alloc: Global, bytes: &[u8]) -> Result<Vec<u8>, ParseRefusal>
     ensures printed { IfOk result (λ text. IsDefinitionPrinted bytes.now text.items) }
     ensures refused { length bytes.now ≤ 16777216
-        → IfErr result (IsParseRefusal definition bytes.now) }
+        → IfErr result (IsParseRefusal (definition None) bytes.now) }
 {
     let mut names = Names::new(alloc);
     match read_definition(alloc, &mut names, None, bytes) {
@@ -63,7 +63,7 @@ fn printed_definition(alloc: Global, bytes: &[u8]) -> Result<Vec<u8>, ParseRefus
 fn printed_certificate(alloc: Global, bytes: &[u8]) -> Result<Vec<u8>, ParseRefusal>
     ensures printed { IfOk result (λ text. IsCertificatePrinted bytes.now text.items) }
     ensures refused { length bytes.now ≤ 16777216
-        → IfErr result (IsParseRefusal certificate bytes.now) }
+        → IfErr result (IsParseRefusal (certificate None []) bytes.now) }
 {
     let mut names = Names::new(alloc);
     let earlier = Declared::new(alloc);

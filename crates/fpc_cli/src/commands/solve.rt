@@ -8,12 +8,13 @@ ghost use Rattle.clause_language.specs.Naming.{IsAtomNamedBelow};
 ghost use Rattle.clause_language.specs.Program.{HasFewArguments};
 ghost use Rattle.clause_language.specs.ReadFile.{DefinitionIsRead};
 ghost use Rattle.search_model.specs.declared.solve.Solved.{Solved};
-ghost use Rattle.fpc_cli.specs.Command.{solve as asked_to_solve};
+ghost use Rattle.fpc_cli.specs.Command.{solve as asked_to_solve, chosen_of};
 ghost use Rattle.fpc_cli.specs.Run.{IsCaused};
-ghost use Rattle.fpc_cli.specs.commands.Solve.{IsRead, IsProgramOf, IsSearch, IsEndNamed, HasText, answer_of, IsAtomAnswer, IsAnswerTo};
+ghost use Rattle.fpc_cli.specs.commands.Solve.{IsRead, IsProgramOf, IsSearch, IsEndNamed, HasText, answer_of, IsAtomAnswer};
 
 use crate::answer::{Answer, Role};
-use crate::source::source_in;
+use crate::command::Origin;
+use crate::reading::definition_in;
 use crate::text::Text;
 use clause_language::atom::Atom;
 use clause_language::certificate::Certificate;
@@ -23,7 +24,6 @@ use clause_language::definition::Definition;
 use clause_language::laws::joined_files_are_programs;
 use clause_language::print::print_atom;
 use clause_language::program::{Program, join};
-use clause_language::read::read_definition;
 use clause_language::single_atom::read_atom;
 use fpc_base::OutOfMemory;
 use fpc_base::outside::Files;
@@ -162,38 +162,23 @@ fn atom_answer(
     }
 }
 
-/// The answer to the bytes of a definition's file and the word of an atom.
-fn answer_to(alloc: Global, bytes: &[u8], word: &str, budget: u64) -> Answer
-    requires { length bytes.now ≤ 16777216 }
-    ensures { IsAnswerTo budget bytes.now word.now result }
-{
-    let mut names = Names::new(alloc);
-    match read_definition(alloc, &mut names, None, bytes) {
-        Ok(definition) => atom_answer(alloc, &mut names, definition, word, budget),
-        Err(ParseRefusal::Refused(refusal)) => Answer::Refused {
-            role: Role::Definition,
-            refusal,
-        },
-        Err(ParseRefusal::OutOfMemory) => Answer::OutOfMemory,
-    }
-}
-
 /// The answer to `solve`.
 pub fn solved<F: Files>(
     alloc: Global,
     budget: u64,
-    definition: &str,
+    definition: Origin<'_>,
     atom: &str,
     files: &mut F,
 ) -> Answer
-    ensures caused { IsCaused (asked_to_solve budget definition.now atom.now)
+    ensures caused { IsCaused (asked_to_solve budget (chosen_of definition.entry) atom.now)
         (F.outside files.old).content
         (F.outside files.old) (F.outside files.new) result }
     ensures never_falls { (F.outside files.old).faults ≤ (F.outside files.new).faults }
     ensures content { (F.outside files.new).content ≡ (F.outside files.old).content }
 {
-    match source_in(alloc, Role::Definition, definition, files) {
-        Ok(bytes) => answer_to(alloc, bytes.as_slice(), atom, budget),
+    let mut names = Names::new(alloc);
+    match definition_in(alloc, &mut names, None, definition, files) {
+        Ok(definition) => atom_answer(alloc, &mut names, definition, atom, budget),
         Err(answer) => answer,
     }
 }

@@ -1,95 +1,26 @@
 //! `verify`: the verdict on an explicit certificate.
-ghost use Rattle.std.specs.Prelude.{◌≡◌, ◌≤◌, ◌<◌, [], ◌∷◌, List, ℕ, IfOk, IfErr};
+ghost use Rattle.std.specs.Prelude.{◌≡◌, ◌≤◌, ◌<◌, [], ◌∷◌, List, ℕ};
 ghost use Rattle.fpc_base.specs.Lexeme.{items_of};
 ghost use Rattle.fpc_base.specs.Outside.{IsAtStartOf};
 ghost use Rattle.polarised_formulas.specs.Formula.{IsClosed, IsLkf};
 ghost use Rattle.polarised_formulas.specs.ReadProblem.{ProblemIsRead};
 ghost use Rattle.polarised_formulas.specs.declared.logic.Logic.TheVariants.{Lkf};
 ghost use Rattle.fpc_cli.specs.Command.{verify as asked_to_verify};
-ghost use Rattle.fpc_cli.specs.Grammars.{first_place, lkf_problem};
-ghost use Rattle.fpc_cli.specs.Inputs.{source, stream, IsReadWhole, Decides, Comes};
+ghost use Rattle.fpc_cli.specs.Inputs.{stream, Comes};
 ghost use Rattle.fpc_cli.specs.Run.{IsCaused};
 ghost use Rattle.fpc_cli.specs.commands.Verify.{IsAnswerOf, VerifyEnds, EndsVerify};
 
 use crate::answer::{Answer, Role};
-use crate::source::source_in;
+use crate::reading::problem_in;
 use explicit_kernel::laws::first_judgment;
 use explicit_kernel::verify::{Verdict, VerifyRefusal, verify};
 use fpc_base::outside::Files;
-use fpc_base::refusal::{Code, ParseRefusal, Refusal};
 use fpc_base::steps::Steps;
-use fpc_base::tokens::Tokens;
 use fpc_terms::names::Names;
-use polarised_formulas::logic::Logic;
-use polarised_formulas::problem::{Problem, read_problem};
+use polarised_formulas::problem::Problem;
 use std::alloc::Global;
 use std::marker::Brand;
 use std::sync::ledger::{Blank, Ledger};
-
-/// The place of the first token.
-fn first_place(bytes: &[u8]) -> usize
-    ensures { result ≡ first_place (items_of bytes.now) }
-{
-    let mut tokens = Tokens::new(bytes);
-    match tokens.next() {
-        Ok(Some(token)) => token.at,
-        _ => 0,
-    }
-}
-
-/// The refusal of a problem of LJF.
-fn not_built(bytes: &[u8]) -> Answer
-    ensures { result ≡ Answer.Refused Role.Problem
-        (record { code = Code.NotBuilt; at = first_place (items_of bytes.now) }) }
-{
-    Answer::Refused {
-        role: Role::Problem,
-        refusal: Refusal {
-            code: Code::NotBuilt,
-            at: first_place(bytes),
-        },
-    }
-}
-
-/// Opens and reads the problem's file.
-fn problem_in<F: Files>(
-    alloc: Global,
-    names: &mut Names,
-    name: &str,
-    files: &mut F,
-) -> Result<Problem, Answer>
-    ensures logic { IfOk result (λ p. p.logic ≡ Lkf) }
-    ensures closed { IfOk result (λ p. IsClosed p.goal) }
-    ensures lkf { IfOk result (λ p. IsLkf p.goal) }
-    ensures read { IfOk result (λ p. (bytes : List ℕ)
-        × (IsReadWhole ((F.outside files.old).content name.now) name.now
-        (F.outside files.old) (F.outside files.new) bytes
-        × ProblemIsRead (items_of bytes) names.new Lkf p.goal)) }
-    ensures decides { IfErr result (Decides (F.outside files.old).content []
-        (source Role.Problem name.now (λ earlier. lkf_problem))
-        (F.outside files.old) (F.outside files.new)) }
-    ensures never_falls { (F.outside files.old).faults ≤ (F.outside files.new).faults }
-    ensures content { (F.outside files.new).content ≡ (F.outside files.old).content }
-{
-    let bytes = match source_in(alloc, Role::Problem, name, files) {
-        Ok(bytes) => bytes,
-        Err(answer) => return Err(answer),
-    };
-    match read_problem(alloc, names, bytes.as_slice()) {
-        Ok(problem) => {
-            let logic = problem.logic;
-            match logic {
-                Logic::Lkf => Ok(problem),
-                Logic::Ljf => Err(not_built(bytes.as_slice())),
-            }
-        }
-        Err(ParseRefusal::Refused(refusal)) => Err(Answer::Refused {
-            role: Role::Problem,
-            refusal,
-        }),
-        Err(ParseRefusal::OutOfMemory) => Err(Answer::OutOfMemory),
-    }
-}
 
 /// The answer that a verdict is.
 fn answer_of(verdict: Result<Verdict, VerifyRefusal>) -> Answer

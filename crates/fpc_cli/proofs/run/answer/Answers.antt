@@ -13,6 +13,17 @@ returns-in-Verify-clause-caused g c =
     c.verified.result)
     c.in-Verify.ensures c.verified.ensures.caused
 
+pub returns-in-Check-clause-caused : goal.returns-in-Check-clause-caused
+returns-in-Check-clause-caused g c =
+    let before = c.args.files.now in
+    let after = c.checked.new.files in
+    subst
+    (λ asked. IsCaused asked (g.F.Source.outside before).content
+    (g.F.Source.outside before)
+    (g.F.Source.outside after)
+    c.checked.result)
+    c.in-Check.ensures c.checked.ensures.caused
+
 pub returns-in-Format-clause-caused : goal.returns-in-Format-clause-caused
 returns-in-Format-clause-caused g c =
     let before = c.args.files.now in

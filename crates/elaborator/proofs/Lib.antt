@@ -1,0 +1,2 @@
+pub mod CheckRight
+pub mod OneOutcome

@@ -1,0 +1,10 @@
+pub mod Lkf
+pub mod Nodes
+pub mod Guided
+pub mod Erasure
+pub mod LkfSequents
+pub mod LkfNatural
+pub mod LkfTabled
+pub mod LkfSound
+pub mod LkfComplete
+pub mod Rows

@@ -1,0 +1,4 @@
+check
+clauses.problem
+builtin:cnf
+cnf.certificate

@@ -1,0 +1,6 @@
+check
+--budget
+180
+modus-ponens.problem
+counter.definition
+counter.certificate

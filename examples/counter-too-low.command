@@ -1,0 +1,4 @@
+check
+drinker.problem
+counter.definition
+counter.certificate

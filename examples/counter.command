@@ -1,0 +1,4 @@
+check
+modus-ponens.problem
+counter.definition
+counter.certificate

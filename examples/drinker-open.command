@@ -1,0 +1,4 @@
+check
+drinker.problem
+script.definition
+drinker-open.certificate

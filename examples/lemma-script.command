@@ -1,0 +1,4 @@
+check
+lemma.problem
+script.definition
+lemma-script.certificate

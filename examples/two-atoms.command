@@ -1,0 +1,4 @@
+check
+two-atoms.problem
+builtin:cnf
+cnf.certificate
