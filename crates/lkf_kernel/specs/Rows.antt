@@ -210,7 +210,7 @@ RuleRow =
     × Gives (s (s (s z))) drinker
     (Store ∷ Decide 0 ∷ Exists (named 37) ∷ Release ∷ Every ∷ OrN ∷ Store ∷ Store ∷ Decide 0
     ∷ Exists (eigen 0) ∷ Release ∷ Every ∷ OrN ∷ Store ∷ Store ∷ Decide 2 ∷ Init 3 ∷ [])
-    × Gives (s (s z)) drinker []
+    × EndsWith (guided_by counting (s (s z))) drinker 10000 (Rejected 168)
 
 -- lemma(V) := p(V), and cut_e(c(X,Y,T),X,Y,lemma(T)).
 abbrev pub with_cut : Program
