@@ -1,2 +1,3 @@
 pub mod CheckRight
 pub mod OneOutcome
+pub mod Elaborated

@@ -18,3 +18,5 @@ pub mod Taking
 pub mod ReaderFeeding
 pub mod SameLines
 pub mod Following
+pub mod SmallSteps
+pub mod SameTexts

@@ -21,10 +21,12 @@ use Rattle.explicit_form.specs.StepText.{word_text, words, header_word, header_t
 use Rattle.explicit_form.specs.StepReading.{bare_step, placed_step, use_of, Line, in_word, at_place, in_place, in_plain, Next, on, whole, last, wrong, with_term, with_formula, in_line, behind_word, next_word, next, State, heading, reading, ended, mistaken, stuck, other, next_heading, settle, go}
 use Rattle.explicit_form.specs.StepLimits.{most_bytes, line_limit, limit_behind, state_limit, told_at, byte_fault, fault}
 use Rattle.explicit_form.specs.Feeding.{step_of, step_with, is_whole}
-use Rattle.fpc_terms.proofs.SameTerms.{SameTerm, SameList, same_nil, same_cons, SameOption, same_none, same_some, if-same}
-use Rattle.polarised_formulas.proofs.SameFormulas.{SameFormula, SameName}
+use Rattle.fpc_terms.specs.Same.{SameTerm, SameList, same_nil, same_cons, SameOption, same_none, same_some}
+use Rattle.fpc_terms.proofs.SameTerms.{if-same}
+use Rattle.polarised_formulas.specs.Same.{SameFormula}
+use Rattle.polarised_formulas.proofs.SameFormulas.{SameName}
 use Rattle.polarised_formulas.proofs.SameReadings as plain_same
-use Rattle.polarised_formulas.proofs.SameSteps.{IsNameless, SameStep, same_exists_step, same_left_every, same_right_exists, same_cut, same_nameless}
+use Rattle.polarised_formulas.specs.Same.{IsNameless, SameStep, same_exists_step, same_left_every, same_right_exists, same_cut, same_nameless}
 
 -- the two lines are the same but for the numbers of names
 pub data SameLine (S : ℕ → ℕ → Type 0) : Line → Line → Type 0 where

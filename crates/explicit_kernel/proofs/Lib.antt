@@ -11,3 +11,5 @@ pub mod RejectionLaws
 pub mod RefusalLaws
 pub mod SameCourses
 mod Ticks
+pub mod OwnText
+pub mod OwnVerdict

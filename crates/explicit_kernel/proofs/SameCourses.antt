@@ -14,9 +14,11 @@ use Rattle.explicit_form.specs.StepLimits.{fault}
 use Rattle.explicit_form.specs.Feeding.{step_with, is_whole}
 use Rattle.explicit_kernel.specs.JudgmentIn.{Judgment, accepted, rejected, refused, Course, going, judged, in_front, played, closing, playing, fitting, judging, advance, course, begin, at_end}
 use Rattle.explicit_kernel.specs.JudgmentLaws.{NumbersDontMatter}
-use Rattle.fpc_terms.proofs.SameTerms.{SameList, same_nil, same_cons, SameOption, same_none, same_some, if-same, append-same}
-use Rattle.polarised_formulas.proofs.SameFormulas.{SameFormula, SameName, formula_meant-same}
-use Rattle.polarised_formulas.proofs.SameSteps.{SameStep}
+use Rattle.fpc_terms.specs.Same.{SameList, same_nil, same_cons, SameOption, same_none, same_some}
+use Rattle.fpc_terms.proofs.SameTerms.{if-same, append-same}
+use Rattle.polarised_formulas.specs.Same.{SameFormula}
+use Rattle.polarised_formulas.proofs.SameFormulas.{SameName, formula_meant-same}
+use Rattle.polarised_formulas.specs.Same.{SameStep}
 use Rattle.polarised_formulas.proofs.Calculus.Naming.{SameLevelled, same_levelled, IsOneToOne, RespectsNames}
 use Rattle.lkf_rules.specs.Lkf.{lkf}
 use Rattle.lkf_rules.proofs.SameSequents.{lkf_respects_names}

@@ -9,3 +9,4 @@ pub mod VerdictIn
 pub mod Verdict
 pub mod Check
 pub mod JudgmentLaws
+pub mod OwnText

@@ -1,6 +1,7 @@
 //! Laws of the judgment of a certificate. The functions do nothing: their contracts say the laws.
 ghost use Rattle.lkf_rules.specs.Lkf.{lkf};
 ghost use Rattle.explicit_kernel.specs.JudgmentLaws.{AcceptedHasNodes, AcceptedIsSpelled, JudgmentStays, NumbersDontMatter, RefusedFirst, RejectedAtLine, RejectedBegins};
+ghost use Rattle.explicit_kernel.specs.OwnText.{OwnTextIsAccepted, OwnTextIsVerified};
 
 /// A certificate for a closed goal is accepted with so many steps exactly where it is the text of
 /// so many, within the limits, which spell a derivation of the goal. The derivation has as many
@@ -34,4 +35,12 @@ pub fn first_judgment()
 /// by each.
 pub fn numbers()
     ensures { NumbersDontMatter lkf }
+{}
+
+/// Steps that spell a derivation of a closed goal are accepted from their own text, with as many
+/// steps, where names stand in the table and the limits are kept. `verify` of a source that holds
+/// this text answers just that, unless a read fails or memory runs out.
+pub fn own_text()
+    ensures accepted { OwnTextIsAccepted lkf }
+    ensures verified { OwnTextIsVerified lkf }
 {}

@@ -7,3 +7,4 @@ pub mod OriginFacts
 pub mod PrintedForms
 pub mod SearchOnce
 pub mod WordCounts
+pub mod HeadlineFacts

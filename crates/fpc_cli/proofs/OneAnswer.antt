@@ -3,12 +3,13 @@ use Rattle.std.proofs.Common.{ℕ, List, []}
 use Rattle.fpc_base.specs.Outside.{Content}
 use Rattle.search_model.specs.Renaming.{AnsweredOnce}
 use Rattle.elaborator.specs.OneOutcome.{CheckedOnce}
-use Rattle.fpc_cli.specs.Command.{Asked, verify, check, format, solve, usage}
+use Rattle.fpc_cli.specs.declared.command.Wanted.TheVariants.{Verdict, Explicit}
+use Rattle.fpc_cli.specs.Command.{Asked, verify, check, elaborate, format, solve, usage}
 use Rattle.fpc_cli.specs.Laws.{HasOneAnswer, AnswerIsDue}
 use Rattle.fpc_cli.specs.Run.{task_of}
 use Rattle.fpc_cli.proofs.InputLaws.{IsLawfulTask, due, fits}
-use Rattle.fpc_cli.proofs.commands.CheckLaws.{check-lawful}
 use Rattle.fpc_cli.proofs.commands.FormatLaws.{format-lawful}
+use Rattle.fpc_cli.proofs.commands.GuidedLaws.{guided-lawful}
 use Rattle.fpc_cli.proofs.commands.SolveLaws.{solve-lawful}
 use Rattle.fpc_cli.proofs.commands.UsageLaws.{usage-lawful}
 use Rattle.fpc_cli.proofs.commands.VerifyLaws.{NumbersDontMatter, verify-lawful}
@@ -17,7 +18,8 @@ module _ (numbers : NumbersDontMatter) (answered : AnsweredOnce) (outcomes : Che
   -- each command owes what it owes
   task-lawful : (content : List ℕ → Content) (asked : Asked) → IsLawfulTask content (task_of asked)
   task-lawful content (verify problem explicit) = verify-lawful numbers content problem explicit
-  task-lawful content (check budget problem definition certificate) = check-lawful outcomes content budget problem definition certificate
+  task-lawful content (check budget problem definition certificate) = guided-lawful outcomes content Verdict budget problem definition certificate
+  task-lawful content (elaborate budget problem definition certificate) = guided-lawful outcomes content Explicit budget problem definition certificate
   task-lawful content (format form file) = format-lawful content form file
   task-lawful content (solve budget definition atom) = solve-lawful answered content budget definition atom
   task-lawful content usage = usage-lawful content

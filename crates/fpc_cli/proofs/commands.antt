@@ -1,5 +1,6 @@
-pub mod CheckFacts
-pub mod CheckLaws
+pub mod GuidedFacts
+pub mod GuidedLaws
+pub mod GuidedTexts
 pub mod FormatFacts
 pub mod FormatLaws
 pub mod SolveFacts

@@ -7,11 +7,13 @@ use Rattle.fpc_cli.specs.declared.answer.Role.TheVariants as role
 use Rattle.fpc_cli.specs.declared.built_in.BuiltIn.{BuiltIn}
 use Rattle.fpc_cli.specs.declared.built_in.BuiltIn.TheVariants.{Cnf}
 use Rattle.fpc_cli.specs.declared.command.Command.{Command}
-use Rattle.fpc_cli.specs.declared.command.Command.TheVariants.{Verify, Check, Format, Solve, Usage}
+use Rattle.fpc_cli.specs.declared.command.Command.TheVariants.{Verify, Check, Elaborate, Format, Solve, Usage}
 use Rattle.fpc_cli.specs.declared.command.Origin.{Origin}
 use Rattle.fpc_cli.specs.declared.command.Origin.TheVariants as origin
 use Rattle.fpc_cli.specs.declared.command.Form.{Form}
 use Rattle.fpc_cli.specs.declared.command.Form.TheVariants.{Problem, Definition, Certificate}
+use Rattle.fpc_cli.specs.declared.command.Wanted.{Wanted}
+use Rattle.fpc_cli.specs.declared.command.Wanted.TheVariants.{Verdict, Explicit}
 
 -- a definition that was chosen: the one in a file, or one that is built in
 pub data Chosen : Type 0 where
@@ -20,12 +22,14 @@ pub data Chosen : Type 0 where
 
 -- what the program is asked to do: to verify the explicit certificate in one file against the
 -- problem in another, to check a problem by a definition and the certificate in a file, within a
--- budget of units, to print the printed form of a file that is read as a problem, a definition or a
--- certificate, to search for an instance of an atom that holds by a definition, within a budget of
--- units, or nothing that it knows
+-- budget of units, to do so and write the explicit certificate, to print the printed form of a file
+-- that is read as a problem, a definition or a certificate, to search for an instance of an atom
+-- that holds by a definition, within a budget of units, or nothing that it knows
 pub data Asked : Type 0 where
   verify : (problem explicit : List ℕ) → Asked
   check : (budget : ℕ) → (problem : List ℕ) → (definition : Chosen) → (certificate : List ℕ) → Asked
+  elaborate : (budget : ℕ) → (problem : List ℕ) → (definition : Chosen) → (certificate : List ℕ)
+      → Asked
   format : (form : Form) → (file : List ℕ) → Asked
   solve : (budget : ℕ) → (definition : Chosen) → (atom : List ℕ) → Asked
   usage : Asked
@@ -114,24 +118,39 @@ abbrev pub solve_within : Option ℕ → List ℕ → List ℕ → Asked
 solve_within None definition atom = usage
 solve_within (Some budget) definition atom = solve_by budget definition atom
 
--- a check, where a definition was chosen
-abbrev pub check_over : ℕ → List ℕ → Option Chosen → List ℕ → Asked
-check_over budget problem None certificate = usage
-check_over budget problem (Some definition) certificate =
-    check budget problem definition certificate
+-- what is wanted of a guided search, as the command's name says
+abbrev pub wanted_said : List ℕ → Option Wanted
+wanted_said name =
+    if bytes_eq name (codes "check") then Some Verdict
+    else (if bytes_eq name (codes "elaborate") then Some Explicit
+    else None)
 
--- after `check` and its budget: a problem's file, a definition, and a certificate's file
-abbrev pub check_by : ℕ → List ℕ → List ℕ → List ℕ → Asked
-check_by budget problem definition certificate =
+-- the guided search that is asked for where this is wanted
+abbrev pub guided : Wanted → ℕ → List ℕ → Chosen → List ℕ → Asked
+guided Verdict budget problem definition certificate = check budget problem definition certificate
+guided Explicit budget problem definition certificate =
+    elaborate budget problem definition certificate
+
+-- a guided search, where a definition was chosen
+abbrev pub guided_over : Wanted → ℕ → List ℕ → Option Chosen → List ℕ → Asked
+guided_over wanted budget problem None certificate = usage
+guided_over wanted budget problem (Some definition) certificate =
+    guided wanted budget problem definition certificate
+
+-- after `check` or `elaborate` and its budget: a problem's file, a definition, and a certificate's
+-- file
+abbrev pub guided_by : Wanted → ℕ → List ℕ → List ℕ → List ℕ → Asked
+guided_by wanted budget problem definition certificate =
     if is_file_word problem && is_file_word certificate
-    then check_over budget problem (definition_said definition) certificate
+    then guided_over wanted budget problem (definition_said definition) certificate
     else usage
 
--- a check, where a budget was said
-abbrev pub check_within : Option ℕ → List ℕ → List ℕ → List ℕ → Asked
-check_within None problem definition certificate = usage
-check_within (Some budget) problem definition certificate =
-    check_by budget problem definition certificate
+-- a guided search, where what is wanted and a budget were said
+abbrev pub guided_within : Option Wanted → Option ℕ → List ℕ → List ℕ → List ℕ → Asked
+guided_within None budget problem definition certificate = usage
+guided_within (Some wanted) None problem definition certificate = usage
+guided_within (Some wanted) (Some budget) problem definition certificate =
+    guided_by wanted budget problem definition certificate
 
 -- a command and two words after it
 abbrev pub short_asked : List ℕ → List ℕ → List ℕ → Asked
@@ -141,12 +160,10 @@ short_asked name second third =
     else (if bytes_eq name (codes "solve") then solve_by usual_budget second third
     else usage))
 
--- `check` and three words after it
-abbrev pub check_asked : List ℕ → List ℕ → List ℕ → List ℕ → Asked
-check_asked name problem definition certificate =
-    if bytes_eq name (codes "check")
-    then check_by usual_budget problem definition certificate
-    else usage
+-- `check` or `elaborate`, and three words after it
+abbrev pub guided_asked : List ℕ → List ℕ → List ℕ → List ℕ → Asked
+guided_asked name problem definition certificate =
+    guided_within (wanted_said name) (Some usual_budget) problem definition certificate
 
 -- `solve` with `--budget`, a budget and two words after it
 abbrev pub long_asked : List ℕ → List ℕ → List ℕ → List ℕ → List ℕ → Asked
@@ -155,11 +172,11 @@ long_asked name flag budget definition atom =
     then solve_within (budget_said budget) definition atom
     else usage
 
--- `check` with `--budget`, a budget and three words after it
-abbrev pub long_check_asked : List ℕ → List ℕ → List ℕ → List ℕ → List ℕ → List ℕ → Asked
-long_check_asked name flag budget problem definition certificate =
-    if bytes_eq name (codes "check") && bytes_eq flag (codes "--budget")
-    then check_within (budget_said budget) problem definition certificate
+-- `check` or `elaborate` with `--budget`, a budget and three words after it
+abbrev pub long_guided_asked : List ℕ → List ℕ → List ℕ → List ℕ → List ℕ → List ℕ → Asked
+long_guided_asked name flag budget problem definition certificate =
+    if bytes_eq flag (codes "--budget")
+    then guided_within (wanted_said name) (budget_said budget) problem definition certificate
     else usage
 
 -- The words are exactly a command and as many more as it has, where those that search may have
@@ -167,11 +184,11 @@ long_check_asked name flag budget problem definition certificate =
 abbrev pub asked_by : List (List ℕ) → Asked
 asked_by (name ∷ second ∷ third ∷ []) = short_asked name second third
 asked_by (name ∷ problem ∷ definition ∷ certificate ∷ []) =
-    check_asked name problem definition certificate
+    guided_asked name problem definition certificate
 asked_by (name ∷ flag ∷ budget ∷ definition ∷ atom ∷ []) =
     long_asked name flag budget definition atom
 asked_by (name ∷ flag ∷ budget ∷ problem ∷ definition ∷ certificate ∷ []) =
-    long_check_asked name flag budget problem definition certificate
+    long_guided_asked name flag budget problem definition certificate
 asked_by _ = usage
 
 -- the definition that comes from there
@@ -189,6 +206,8 @@ abbrev pub asked_of : Command → Asked
 asked_of (Verify problem explicit) = verify problem.now explicit.now
 asked_of (Check budget problem definition certificate) =
     check budget problem.now (chosen_of definition) certificate.now
+asked_of (Elaborate budget problem definition certificate) =
+    elaborate budget problem.now (chosen_of definition) certificate.now
 asked_of (Format form file) = format form file.now
 asked_of (Solve budget definition atom) = solve budget (chosen_of definition) atom.now
 asked_of Usage = usage

@@ -168,3 +168,8 @@ pub record Task : Type 1 where
   pub inputs : List Input
   pub Ends : (List ℕ → Content) → Ending
   pub Due : (List ℕ → Content) → List (List ℕ) → Answer → Type 0
+
+-- the answer comes of what a command does
+abbrev pub ComesOf : (List ℕ → Content) → Task → Outside → Outside → Answer → Type 0
+ComesOf content task old new answer =
+    Comes content (task.Ends content) [] task.inputs old new answer

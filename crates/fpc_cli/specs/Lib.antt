@@ -8,3 +8,4 @@ pub mod Grammars
 pub mod commands
 pub mod Run
 pub mod Laws
+pub mod Headline

@@ -1,12 +1,13 @@
 -- Why the program answers as it does, and what it writes.
-use Rattle.std.specs.Prelude.{◌≡◌, ◌⊎◌, ℕ, List, [], Option}
+use Rattle.std.specs.Prelude.{◌≡◌, ◌⊎◌, ℕ, List, Option}
 use Rattle.fpc_base.specs.Outside.{Outside, Content, Rose, Adds, AddsPrefix}
 use Rattle.fpc_cli.specs.declared.answer.Answer.{Answer}
 use Rattle.fpc_cli.specs.declared.answer.Answer.TheVariants.{OutOfMemory}
+use Rattle.fpc_cli.specs.declared.command.Wanted.TheVariants.{Verdict, Explicit}
 use Rattle.fpc_cli.specs.Answer.{answer_text, status_of}
-use Rattle.fpc_cli.specs.Command.{Asked, verify, check, format, solve, usage}
-use Rattle.fpc_cli.specs.Inputs.{Task, Comes}
-use Rattle.fpc_cli.specs.commands.Check.{check_task}
+use Rattle.fpc_cli.specs.Command.{Asked, verify, check, elaborate, format, solve, usage}
+use Rattle.fpc_cli.specs.Inputs.{Task, ComesOf}
+use Rattle.fpc_cli.specs.commands.Guided.{guided_task}
 use Rattle.fpc_cli.specs.commands.Format.{format_task}
 use Rattle.fpc_cli.specs.commands.Solve.{solve_task}
 use Rattle.fpc_cli.specs.commands.Usage.{usage_task}
@@ -16,7 +17,9 @@ use Rattle.fpc_cli.specs.commands.Verify.{verify_task}
 abbrev pub task_of : Asked → Task
 task_of (verify problem explicit) = verify_task problem explicit
 task_of (check budget problem definition certificate) =
-    check_task budget problem definition certificate
+    guided_task Verdict budget problem definition certificate
+task_of (elaborate budget problem definition certificate) =
+    guided_task Explicit budget problem definition certificate
 task_of (format form file) = format_task form file
 task_of (solve budget definition atom) = solve_task budget definition atom
 task_of usage = usage_task
@@ -24,8 +27,7 @@ task_of usage = usage_task
 -- An answer's cause, in what was asked, what is told of the files, and what had come of them before
 -- and has now.
 abbrev pub IsCaused : Asked → (List ℕ → Content) → Outside → Outside → Answer → Type 0
-IsCaused asked content old new answer =
-    Comes content ((task_of asked).Ends content) [] (task_of asked).inputs old new answer
+IsCaused asked content old new answer = ComesOf content (task_of asked) old new answer
 
 -- the answer that was found is told; or memory ran out for its text
 abbrev pub IsTold : (found told : Answer) → Type 0

@@ -1,5 +1,5 @@
 pub mod Verify
-pub mod Check
+pub mod Guided
 pub mod Format
 pub mod Solve
 pub mod Usage

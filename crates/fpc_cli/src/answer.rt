@@ -41,7 +41,7 @@ pub enum Answer {
     Accepted { steps: u64 },
     /// The certificate is wrong at the step of that number.
     Rejected { at: u64 },
-    /// The printed form of a file.
+    /// The printed form of a file, or an explicit certificate.
     Formatted { text: Text },
     /// An instance of the atom holds; this is its text.
     Holds { atom: Text },
@@ -49,7 +49,7 @@ pub enum Answer {
     NotProved,
     /// The search took all units of its budget before its end.
     BudgetSpent,
-    /// An instance of the atom holds, and its text is too long.
+    /// An instance of the atom holds, or the goal is accepted, and the text is too long.
     TooLong,
     /// A file or an atom was refused.
     Refused { role: Role, refusal: Refusal },

@@ -1,6 +1,6 @@
 //! The commands that the program's words ask for.
 ghost use Rattle.std.specs.Prelude.{◌≡◌};
-ghost use Rattle.fpc_cli.specs.Command.{asked_by, asked_of, short_asked, long_asked, check_asked, long_check_asked, verify_by, check_by, format_by, form_said, role_of, is_file_word, with_digit, with_digits, budget_said, is_definition_word, definition_said, IsSaid, solve_by};
+ghost use Rattle.fpc_cli.specs.Command.{asked_by, asked_of, short_asked, long_asked, guided_asked, long_guided_asked, guided, guided_by, wanted_said, verify_by, chosen_of, format_by, form_said, role_of, is_file_word, with_digit, with_digits, budget_said, is_definition_word, definition_said, IsSaid, solve_by};
 
 use crate::answer::Role;
 use crate::built_in::BuiltIn;
@@ -36,6 +36,15 @@ pub enum Origin<'a> {
     BuiltIn(BuiltIn),
 }
 
+/// What is wanted of a search for a derivation.
+#[derive(Clone, Copy, PartialEq, Eq, Debug)]
+pub enum Wanted {
+    /// The verdict alone.
+    Verdict,
+    /// The explicit certificate.
+    Explicit,
+}
+
 /// What the program is asked to do.
 #[derive(Clone, Copy, PartialEq, Eq, Debug)]
 pub enum Command<'a> {
@@ -46,6 +55,13 @@ pub enum Command<'a> {
     },
     /// Check a problem by a definition and the certificate in a file, within a budget of units.
     Check {
+        budget: u64,
+        problem: &'a str,
+        definition: Origin<'a>,
+        certificate: &'a str,
+    },
+    /// Check a problem in the same way, and write the explicit certificate.
+    Elaborate {
         budget: u64,
         problem: &'a str,
         definition: Origin<'a>,
@@ -78,7 +94,7 @@ pub fn command_of(words: &Words) -> Command<'_>
 {
     match words.len() {
         3 => short_command(words.get(0), words.get(1), words.get(2)),
-        4 => check_command(words.get(0), words.get(1), words.get(2), words.get(3)),
+        4 => guided_command(words.get(0), words.get(1), words.get(2), words.get(3)),
         5 => long_command(
             words.get(0),
             words.get(1),
@@ -86,7 +102,7 @@ pub fn command_of(words: &Words) -> Command<'_>
             words.get(3),
             words.get(4),
         ),
-        6 => long_check_command(
+        6 => long_guided_command(
             words.get(0),
             words.get(1),
             words.get(2),
@@ -114,18 +130,30 @@ fn short_command<'a>(name: &str, second: &'a str, third: &'a str) -> Command<'a>
 }
 
 /// The command of a name and three words after it.
-fn check_command<'a>(
+fn guided_command<'a>(
     name: &str,
     problem: &'a str,
     definition: &'a str,
     certificate: &'a str,
 ) -> Command<'a>
-    ensures { asked_of result ≡ check_asked name.now problem.now definition.now certificate.now }
+    ensures { asked_of result ≡ guided_asked name.now problem.now definition.now certificate.now }
+{
+    match wanted_said(name) {
+        Some(wanted) => guided_of(wanted, USUAL_BUDGET, problem, definition, certificate),
+        None => Command::Usage,
+    }
+}
+
+/// What is wanted of a guided search, as the command's name says.
+fn wanted_said(name: &str) -> Option<Wanted>
+    ensures { result ≡ wanted_said name.now }
 {
     if name == "check" {
-        check_of(USUAL_BUDGET, problem, definition, certificate)
+        Some(Wanted::Verdict)
+    } else if name == "elaborate" {
+        Some(Wanted::Explicit)
     } else {
-        Command::Usage
+        None
     }
 }
 
@@ -149,7 +177,7 @@ fn long_command<'a>(
 }
 
 /// The command of a name, a flag with its budget, and three words after it.
-fn long_check_command<'a>(
+fn long_guided_command<'a>(
     name: &str,
     flag: &str,
     budget: &str,
@@ -157,14 +185,17 @@ fn long_check_command<'a>(
     definition: &'a str,
     certificate: &'a str,
 ) -> Command<'a>
-    ensures { asked_of result ≡ long_check_asked name.now flag.now budget.now problem.now
+    ensures { asked_of result ≡ long_guided_asked name.now flag.now budget.now problem.now
         definition.now certificate.now }
 {
-    if name != "check" || flag != "--budget" {
+    if flag != "--budget" {
         return Command::Usage;
     }
-    match budget_said(budget) {
-        Some(budget) => check_of(budget, problem, definition, certificate),
+    match wanted_said(name) {
+        Some(wanted) => match budget_said(budget) {
+            Some(budget) => guided_of(wanted, budget, problem, definition, certificate),
+            None => Command::Usage,
+        },
         None => Command::Usage,
     }
 }
@@ -222,26 +253,49 @@ fn solve_of<'a>(budget: u64, definition: &'a str, atom: &'a str) -> Command<'a>
     }
 }
 
-/// The command of the words after `check` and its budget.
-fn check_of<'a>(
+/// The command of the words after `check` or `elaborate` and its budget.
+fn guided_of<'a>(
+    wanted: Wanted,
     budget: u64,
     problem: &'a str,
     definition: &'a str,
     certificate: &'a str,
 ) -> Command<'a>
-    ensures { asked_of result ≡ check_by budget problem.now definition.now certificate.now }
+    ensures { asked_of result ≡ guided_by wanted budget problem.now definition.now certificate.now }
 {
     if !(is_file_word(problem) && is_file_word(certificate)) {
         return Command::Usage;
     }
     match definition_said(definition) {
-        Some(definition) => Command::Check {
+        Some(definition) => guided(wanted, budget, problem, definition, certificate),
+        None => Command::Usage,
+    }
+}
+
+/// The guided search of which this is wanted.
+fn guided<'a>(
+    wanted: Wanted,
+    budget: u64,
+    problem: &'a str,
+    definition: Origin<'a>,
+    certificate: &'a str,
+) -> Command<'a>
+    ensures { asked_of result
+        ≡ guided wanted budget problem.now (chosen_of definition.entry) certificate.now }
+{
+    match wanted {
+        Wanted::Verdict => Command::Check {
             budget,
             problem,
             definition,
             certificate,
         },
-        None => Command::Usage,
+        Wanted::Explicit => Command::Elaborate {
+            budget,
+            problem,
+            definition,
+            certificate,
+        },
     }
 }
 

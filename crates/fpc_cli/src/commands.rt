@@ -1,6 +1,6 @@
 //! What the program's commands do: each in a file of its own.
 
-pub mod check;
 pub mod format;
+pub mod guided;
 pub mod solve;
 pub mod verify;

@@ -3,6 +3,7 @@ ghost use Rattle.std.specs.Prelude.{◌≡◌, ◌⊎◌, ◌≤◌, [], List, �
 ghost use Rattle.fpc_base.specs.Lexeme.{items_of};
 ghost use Rattle.fpc_terms.specs.Name.{Grows};
 ghost use Rattle.polarised_formulas.specs.Formula.{IsClosed, IsLkf};
+ghost use Rattle.polarised_formulas.specs.Printing.{AllNamesBelow};
 ghost use Rattle.polarised_formulas.specs.ReadProblem.{ProblemIsRead};
 ghost use Rattle.polarised_formulas.specs.declared.logic.Logic.TheVariants.{Lkf};
 ghost use Rattle.clause_language.specs.Naming.{AreDeclaredNamedBelow, IsDefinitionNamedBelow, IsCertificateNamedBelow};
@@ -62,6 +63,7 @@ pub fn problem_in<F: Files>(
     ensures logic { IfOk result (λ p. p.logic ≡ Lkf) }
     ensures closed { IfOk result (λ p. IsClosed p.goal) }
     ensures lkf { IfOk result (λ p. IsLkf p.goal) }
+    ensures named { IfOk result (λ p. AllNamesBelow (length names.new) p.goal) }
     ensures read { IfOk result (λ p. (bytes : List ℕ)
         × (IsReadWhole ((F.outside files.old).content name.now) name.now
         (F.outside files.old) (F.outside files.new) bytes

@@ -1,16 +1,20 @@
 //! All that the program does, over any files and any sink.
 ghost use Rattle.std.specs.Prelude.{◌≡◌, ◌≤◌};
 ghost use Rattle.fpc_cli.specs.Command.{asked_by};
+ghost use Rattle.fpc_cli.specs.Headline.{Headline};
 ghost use Rattle.fpc_cli.specs.Run.{IsCaused, IsAnswered, IsPut};
 
 use crate::answer::{Answer, WANT_OF_MEMORY, status, text_of};
-use crate::command::{Command, command_of};
-use crate::commands::check::checked;
+use crate::command::{Command, Wanted, command_of};
 use crate::commands::format::formatted;
+use crate::commands::guided::searched;
 use crate::commands::solve::solved;
 use crate::commands::verify::verified;
+use crate::laws::due_answers;
 use crate::status::Status;
 use crate::words::Words;
+use elaborator::laws::one_outcome;
+use explicit_kernel::laws::{acceptance, numbers};
 use fpc_base::outside::{Failed, Files, Sink};
 use fpc_base::transfer::put;
 use std::alloc::Global;
@@ -29,7 +33,29 @@ fn answer<F: Files>(alloc: Global, words: &Words, files: &mut F) -> Answer
             problem,
             definition,
             certificate,
-        } => checked(alloc, budget, problem, definition, certificate, files),
+        } => searched(
+            alloc,
+            Wanted::Verdict,
+            budget,
+            problem,
+            definition,
+            certificate,
+            files,
+        ),
+        Command::Elaborate {
+            budget,
+            problem,
+            definition,
+            certificate,
+        } => searched(
+            alloc,
+            Wanted::Explicit,
+            budget,
+            problem,
+            definition,
+            certificate,
+            files,
+        ),
         Command::Format { form, file } => formatted(alloc, form, file, files),
         Command::Solve {
             budget,
@@ -55,15 +81,28 @@ fn write<S: Sink>(status: Status, text: &[u8], out: &mut S) -> Status
 /// Runs the program on its words: makes the whole output first, then writes it. The status is 0 for
 /// accepted and for a printed form, 1 for rejected, 2 for a budget that is spent, 3 for a refused
 /// file or atom, 4 for words that are no command, 5 for a read fault, 6 for a write fault, 7 for an
-/// atom whose text is too long, 8 for want of memory.
+/// explicit certificate or an atom whose text is too long, 8 for want of memory.
 pub fn run<F: Files, S: Sink>(alloc: Global, words: &Words, files: &mut F, out: &mut S) -> Status
     ensures answered { IsAnswered (asked_by words.now) (F.outside files.old).content
         (F.outside files.old) (F.outside files.new) result.code
         (S.output out.old).faults (S.output out.new).faults
         (S.output out.old).taken (S.output out.new).taken }
+    ensures headline { Headline (record {
+      asked = asked_by words.now;
+      content = (F.outside files.old).content;
+      status = result.code;
+      files_before = F.outside files.old;
+      files_now = F.outside files.new;
+      sink_before = S.output out.old;
+      sink_now = S.output out.new;
+    }) }
     ensures never_falls { (F.outside files.old).faults ≤ (F.outside files.new).faults }
     ensures content { (F.outside files.new).content ≡ (F.outside files.old).content }
 {
+    numbers();
+    one_outcome();
+    due_answers();
+    acceptance();
     let answer = answer(alloc, words, files);
     let code = status(&answer);
     match text_of(alloc, answer) {

@@ -22,3 +22,5 @@ pub mod LevelFacts
 pub mod RoomFacts
 pub mod SubstitutionFacts
 mod OneAnswer
+pub mod ArityFacts
+pub mod SameTexts

@@ -1,28 +1,8 @@
 -- Terms that are the same but for the numbers of their names.
 use Rattle.std.proofs.Common.{◌≡◌, ℕ, zero, suc, Bool, true, false, if◌then◌else◌, ◌&&◌, nat_eq, List, [], ◌∷◌, ◌++◌, length, Option, Some, None, slice_get, refl, ap, ap₂}
 use Rattle.fpc_terms.specs.Term.{Term, Args, eigen, bound, variable, app, no_args, arg, same_term, same_args, open_term, open_args}
-
-mutual
-  -- the two terms are the same but for their names, which are related
-  pub data SameTerm (S : ℕ → ℕ → Type 0) : Term → Term → Type 0 where
-    same_eigen : (k : ℕ) → SameTerm S (eigen k) (eigen k)
-    same_bound : (k : ℕ) → SameTerm S (bound k) (bound k)
-    same_variable : (k : ℕ) → SameTerm S (variable k) (variable k)
-    same_app : {f g : ℕ} {ts us : Args} → S f g → SameArgs S ts us → SameTerm S (app f ts) (app g us)
-
-  pub data SameArgs (S : ℕ → ℕ → Type 0) : Args → Args → Type 0 where
-    same_no_args : SameArgs S no_args no_args
-    same_arg : {t u : Term} {ts us : Args} → SameTerm S t u → SameArgs S ts us → SameArgs S (arg t ts) (arg u us)
-
--- the two lists have related items, place by place
-pub data SameList {X : Type 0} (R : X → X → Type 0) : List X → List X → Type 0 where
-  same_nil : SameList R [] []
-  same_cons : {x y : X} {xs ys : List X} → R x y → SameList R xs ys → SameList R (x ∷ xs) (y ∷ ys)
-
--- two related things, or none on both sides
-pub data SameOption {X : Type 0} (R : X → X → Type 0) : Option X → Option X → Type 0 where
-  same_none : SameOption R None None
-  same_some : {x y : X} → R x y → SameOption R (Some x) (Some y)
+use Rattle.fpc_terms.specs.Same.{SameTerm, SameArgs, same_eigen, same_bound, same_variable, same_app, same_no_args, same_arg}
+use Rattle.fpc_terms.specs.Same.{SameList, SameOption, same_nil, same_cons, same_none, same_some}
 
 -- the same test chooses on both sides
 pub if-same : {X : Type 0} (R : X → X → Type 0) (c : Bool) {x y z w : X} → (c ≡ true → R x z) → (c ≡ false → R y w) → R (if c then x else y) (if c then z else w)

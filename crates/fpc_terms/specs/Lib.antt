@@ -17,3 +17,5 @@ pub mod Printing
 pub mod ReadTerm
 pub mod Adding
 pub mod OneAnswer
+pub mod Arity
+pub mod Same

@@ -64,6 +64,11 @@ abbrev pub IsScopedAt : Level → Term → Type 0
 IsScopedAt None t = Unit {0}
 IsScopedAt (Some l) t = InScope l t
 
+-- an open term that is in scope at a level, under these levels of its variables
+abbrev pub IsOpenAt : List Level → Level → Term → Type 0
+IsOpenAt levels None t = Unit {0}
+IsOpenAt levels (Some l) t = Each (λ m. m < l) Never (λ n. IsAtMost (level_of levels n) (Some l)) t
+
 -- A closing: a ground term for each variable, in scope at the variable's level.
 pub record IsClosing (levels : List Level) (s : ℕ → Term) : Type 0 where
   pub ground : (n : ℕ) → IsGround (s n)

@@ -2,6 +2,7 @@
 #![tactic(auto)]
 
 pub mod arguments;
+pub mod arity;
 pub mod builder;
 pub mod cell;
 pub mod laws;

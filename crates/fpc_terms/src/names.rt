@@ -1,6 +1,6 @@
 //! The names in use, each with its number.
 ghost use Rattle.std.specs.Prelude.{◌≡◌, ◌<◌, ◌^◌, [], IfOk, IsOk, OnOk, OnErr, Some, length, slice_get, IsTrue, ◌↔◌};
-ghost use Rattle.fpc_terms.specs.Name.{IsName, HasName, AreDifferent, IsInterned, Grows};
+ghost use Rattle.fpc_terms.specs.Name.{IsName, HasName, AreDifferent, AreNames, IsInterned, Grows};
 ghost use Rattle.fpc_terms.specs.Adding.{AddsOnly, IsText};
 
 use crate::name::NameId;
@@ -65,6 +65,13 @@ impl Names {
         ensures { AreDifferent self.now }
     {
         self.texts.distinct();
+    }
+
+    /// Each text is a name.
+    pub fn proper(&self)
+        ensures { AreNames self.now }
+    {
+        let _ = &self.texts;
     }
 
     /// The id of a text, which gets one where it has none yet. Time is logarithmic in the number

@@ -1,13 +1,15 @@
 -- LKF's table is the same but for the numbers of names, where programs are.
 use Rattle.std.proofs.Common.{◌≡◌, ℕ, ◌+◌, ◌++◌, true, false, List, [], ◌∷◌, ap}
 use Rattle.fpc_terms.specs.Term.{Term, variable, app, count}
-use Rattle.fpc_terms.proofs.SameTerms.{SameTerm, same_eigen, same_variable, same_app, SameList, same_nil, same_cons, append-same, slice_get-same}
+use Rattle.fpc_terms.specs.Same.{SameTerm, same_eigen, same_variable, same_app, SameList, same_nil, same_cons}
+use Rattle.fpc_terms.proofs.SameTerms.{append-same, slice_get-same}
 use Rattle.polarised_formulas.specs.Formula.{Formula, dual_of}
 use Rattle.polarised_formulas.specs.declared.logic.Polarity.TheVariants.{Positive, Negative}
 use Rattle.polarised_formulas.specs.declared.logic.Side.TheVariants.{Left, Right}
 use Rattle.polarised_formulas.specs.declared.step.Step.TheVariants.{TrueN, FalseN, OrN, AndN, Every, Store, Decide, TrueP, AndP, OrP, Release, Init}
-use Rattle.polarised_formulas.proofs.SameFormulas.{SameFormula, same_truth, same_falsity, same_atom, same_conj, same_disj, same_implies, same_for_all, same_exists, polarity_of-same, dual_of-same, open_at-same}
-use Rattle.polarised_formulas.proofs.SameSteps.{same_exists_step, same_nameless}
+use Rattle.polarised_formulas.specs.Same.{SameFormula, same_truth, same_falsity, same_atom, same_conj, same_disj, same_implies, same_for_all, same_exists}
+use Rattle.polarised_formulas.proofs.SameFormulas.{polarity_of-same, dual_of-same, open_at-same}
+use Rattle.polarised_formulas.specs.Same.{same_exists_step, same_nameless}
 use Rattle.clause_language.specs.Program.{ids_of}
 use Rattle.clause_language.specs.declared.program.Program.{Program}
 use Rattle.clause_language.specs.declared.word_ids.WordIds.{WordIds}

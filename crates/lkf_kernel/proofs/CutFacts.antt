@@ -10,8 +10,8 @@ use Rattle.polarised_formulas.specs.Formula.{Formula, truth, falsity, atom, conj
 use Rattle.clause_language.specs.Program.{IsDeclarationOf, IsOpenProgram}
 use Rattle.clause_language.specs.declared.declaration.DeclaredFormula.{DeclaredFormula}
 use Rattle.clause_language.specs.declared.program.Program.{Program}
-use Rattle.search_model.specs.OpenFormula.{put_formula}
-use Rattle.search_model.proofs.OpenFormulaFacts.{inside_put}
+use Rattle.polarised_formulas.specs.OpenFormula.{put_formula}
+use Rattle.polarised_formulas.proofs.OpenFormulaFacts.{inside_put}
 
 -- a formula of LKF with terms for its variables
 pub lkf_put : (s : ℕ → Term) (f : Formula) → IsLkf f → IsLkf (put_formula s f)

@@ -5,7 +5,7 @@ use Rattle.fpc_terms.specs.Term.{Term}
 use Rattle.polarised_formulas.specs.Formula.{Formula, dual_of}
 use Rattle.clause_language.specs.declared.declaration.DeclaredFormula.{DeclaredFormula}
 use Rattle.search_model.specs.Lines.{Line, cut_of}
-use Rattle.search_model.specs.OpenFormula.{put_formula}
+use Rattle.polarised_formulas.specs.OpenFormula.{put_formula}
 use Rattle.search_model.specs.declared.stored.Stored.{Stored}
 use Rattle.lkf_kernel.specs.declared.sequent.Sequent.{Sequent}
 use Rattle.lkf_kernel.specs.declared.sequent.Sequent.TheVariants.{Up}

@@ -27,9 +27,9 @@ use Rattle.lkf_rules.specs.Premises.{premises_of}
 use Rattle.lkf_rules.specs.Derivation.{Tree, node, no_trees, tree, root_sequent, IsDerivation}
 use Rattle.lkf_rules.specs.Certificate.{Certificate, by, no_certificates, certificate, steps_before, Spells}
 use Rattle.lkf_rules.proofs.InitialFacts.{closes-dual}
-use Rattle.search_model.specs.OpenFormula.{put_formula}
+use Rattle.polarised_formulas.specs.OpenFormula.{put_formula}
 use Rattle.search_model.specs.declared.stored.Stored.{Stored}
-use Rattle.search_model.proofs.OpenFormulaFacts.{inside_more}
+use Rattle.polarised_formulas.proofs.OpenFormulaFacts.{inside_more}
 use Rattle.lkf_kernel.specs.Lkf.{root_of}
 use Rattle.lkf_kernel.specs.Guided.{Guided, IsAt, IsFresh, IsWithout, part, true_negative, false_negative, or_negative, and_negative, every, store, decide, cut_by, true_positive, and_positive, or_positive, some, release, initial}
 use Rattle.lkf_kernel.specs.Erasure.{formulas_in, plain_sequent, leaf, over_one, over_two, erased, GuidedIsSpelling}

@@ -5,3 +5,4 @@ pub mod CutLists
 pub mod ErasureFacts
 pub mod SameSequents
 pub mod ByNames
+pub mod Shallow

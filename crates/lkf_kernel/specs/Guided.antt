@@ -20,7 +20,7 @@ use Rattle.clause_language.specs.declared.program.Program.{Program}
 use Rattle.clause_language.specs.declared.word_ids.WordIds.{WordIds}
 use Rattle.lkf_rules.specs.Rule.{is_storable}
 use Rattle.search_model.specs.Lines.{atom_of, arguments_from}
-use Rattle.search_model.specs.OpenFormula.{put_formula}
+use Rattle.polarised_formulas.specs.OpenFormula.{put_formula}
 use Rattle.search_model.specs.Table.{ItemOn, derive, pick, init_pick, cut, Table}
 use Rattle.search_model.specs.declared.stored.Stored.{Stored}
 use Rattle.lkf_kernel.specs.Lkf.{root_of, put_sequent, IsOpenSequent, IsScopedSequent, goal_lists}

@@ -16,7 +16,7 @@ use Rattle.clause_language.specs.declared.word_ids.WordIds.{WordIds}
 use Rattle.search_model.specs.Lines.{Line, bare, closed_by, one, raised, two, indexed, witnessed}
 use Rattle.search_model.specs.Lines.{sided, picked, init_picked, cutting, at_place, closing_at}
 use Rattle.search_model.specs.Lines.{cut_of, at_places, atom_term, is_literal}
-use Rattle.search_model.specs.OpenFormula.{put_formula, IsOpenFormula, IsScopedFormula}
+use Rattle.polarised_formulas.specs.OpenFormula.{put_formula, IsOpenFormula, IsScopedFormula}
 use Rattle.search_model.specs.StoredFormulas.{put_stored, IsOpenStored, IsScopedStored}
 use Rattle.search_model.specs.Table.{ItemOn, derive, pick, init_pick, cut}
 use Rattle.search_model.specs.declared.stored.Stored.{Stored}

@@ -20,7 +20,7 @@ use Rattle.polarised_formulas.specs.declared.step.Step.TheVariants.{Exists, Rele
 use Rattle.clause_language.specs.declared.program.Program.{Program}
 use Rattle.clause_language.specs.LeastModel.{AreOpenClauses}
 use Rattle.clause_language.specs.Program.{IsOpenProgram}
-use Rattle.search_model.specs.OpenFormula.{put_formula, IsOpenFormula}
+use Rattle.polarised_formulas.specs.OpenFormula.{put_formula, IsOpenFormula}
 use Rattle.search_model.specs.Lawful.{IsComplete}
 use Rattle.search_model.specs.Table.{ItemOn, derive, pick, init_pick, cut, Table, calculus_of}
 use Rattle.search_model.specs.Table.{AreSequents}
@@ -39,7 +39,7 @@ use Rattle.lkf_kernel.specs.Guided.{initial, IsPicked, ClosesWith, IsCut, lkf_ta
 use Rattle.search_model.proofs.TableFacts.{table_lawful}
 use Rattle.search_model.proofs.NaturalFacts.{natural_complete}
 use Rattle.search_model.proofs.SequentParts.{alone, stored_all}
-use Rattle.search_model.proofs.OpenedFacts.{put-dual, open_opened}
+use Rattle.polarised_formulas.proofs.OpenedPutFacts.{put-dual, open_opened}
 use Rattle.search_model.proofs.ClosedFacts.{closed_formula, closed_formulas, closed_stores}
 use Rattle.search_model.proofs.ClosedFacts.{closed_opened}
 use Rattle.search_model.proofs.LineGiven.{has_place, Given, later_given, bare_given}

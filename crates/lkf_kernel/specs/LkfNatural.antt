@@ -17,7 +17,7 @@ use Rattle.polarised_formulas.specs.declared.step.Step.TheVariants.{FalseN, OrN,
 use Rattle.polarised_formulas.specs.declared.step.Step.TheVariants.{Decide, TrueP, AndP, OrP}
 use Rattle.polarised_formulas.specs.declared.step.Step.TheVariants.{Exists, Release, Init}
 use Rattle.clause_language.specs.declared.program.Program.{Program}
-use Rattle.search_model.specs.OpenFormula.{put_formula, AnyBound, IsOpenFormula}
+use Rattle.polarised_formulas.specs.OpenFormula.{put_formula, AnyBound, IsOpenFormula}
 use Rattle.search_model.specs.Lawful.{IsNatural}
 use Rattle.search_model.specs.Table.{ItemOn, derive, pick, init_pick, cut, Table, calculus_of}
 use Rattle.search_model.specs.Table.{AreSequents}
@@ -32,7 +32,7 @@ use Rattle.lkf_kernel.specs.Lkf.{closings, goal_lists}
 use Rattle.lkf_kernel.specs.Guided.{lkf_table}
 use Rattle.search_model.proofs.SequentParts.{alone, work_agrees, works_agree, stores_agree}
 use Rattle.search_model.proofs.SequentParts.{atom_term-put, literal-put}
-use Rattle.search_model.proofs.OpenedFacts.{put-dual}
+use Rattle.polarised_formulas.proofs.OpenedPutFacts.{put-dual}
 use Rattle.search_model.proofs.LineNatural.{w, w_old, w_new, on, sequent_is, opened_is}
 use Rattle.search_model.proofs.LineNatural.{closed_by_natural, one_natural, raised_natural}
 use Rattle.search_model.proofs.LineNatural.{two_natural, indexed_natural, witnessed_natural}

@@ -14,22 +14,22 @@ use Rattle.clause_language.specs.declared.declaration.DeclaredFormula.{DeclaredF
 use Rattle.clause_language.specs.declared.program.Program.{Program}
 use Rattle.clause_language.specs.Program.{IsOpenProgram, IsDeclarationOf}
 use Rattle.lkf_rules.specs.Rule.{is_storable}
-use Rattle.search_model.specs.OpenFormula.{put_formula}
-use Rattle.search_model.specs.Lawful.{IsOpenAt}
+use Rattle.polarised_formulas.specs.OpenFormula.{put_formula}
+use Rattle.fpc_terms.specs.Open.{IsOpenAt}
 use Rattle.search_model.specs.Table.{AreSequents}
 use Rattle.lkf_kernel.specs.declared.sequent.Sequent.{Sequent}
 use Rattle.lkf_kernel.specs.declared.sequent.Sequent.TheVariants.{Up, Down}
 use Rattle.lkf_kernel.specs.Lkf.{put_sequent, IsOpenSequent, IsScopedSequent, is_positive}
 use Rattle.lkf_kernel.specs.Guided.{lkf_table}
-use Rattle.search_model.proofs.OpenFormulaFacts.{formula_same, formula-put, formula_open_put}
-use Rattle.search_model.proofs.OpenFormulaFacts.{formula_open_more, formula_scoped_put}
-use Rattle.search_model.proofs.OpenFormulaFacts.{formula_scoped_more}
+use Rattle.polarised_formulas.proofs.OpenFormulaFacts.{formula_same, formula-put, formula_open_put}
+use Rattle.polarised_formulas.proofs.OpenFormulaFacts.{formula_open_more, formula_scoped_put}
+use Rattle.polarised_formulas.proofs.OpenFormulaFacts.{formula_scoped_more}
 use Rattle.search_model.proofs.SequentParts.{stores-put, works-put, stores_same, works_same}
 use Rattle.search_model.proofs.SequentParts.{work_agrees, works_agree, stores_agree}
 use Rattle.search_model.proofs.SequentParts.{stores_open_put, works_open_put, stores_open_more}
 use Rattle.search_model.proofs.SequentParts.{works_open_more, stores_scoped_put, works_scoped_put}
 use Rattle.search_model.proofs.SequentParts.{stores_scoped_more, works_scoped_more}
-use Rattle.search_model.proofs.OpenedFacts.{put-polarity}
+use Rattle.polarised_formulas.proofs.OpenedPutFacts.{put-polarity}
 
 pub lkf_sequents : (p : Program) → AreSequents (lkf_table p)
 lkf_sequents p = record {

@@ -20,7 +20,7 @@ use Rattle.polarised_formulas.specs.declared.step.Step.TheVariants.{Exists, Rele
 use Rattle.clause_language.specs.declared.program.Program.{Program}
 use Rattle.clause_language.specs.Program.{IsOpenProgram}
 use Rattle.lkf_rules.specs.Rule.{is_storable}
-use Rattle.search_model.specs.OpenFormula.{put_formula, AnyBound, IsOpenFormula, IsScopedFormula}
+use Rattle.polarised_formulas.specs.OpenFormula.{put_formula, AnyBound, IsOpenFormula, IsScopedFormula}
 use Rattle.search_model.specs.Table.{ItemOn, derive, pick, init_pick, cut, Table}
 use Rattle.search_model.specs.TableLaws.{AreSoundLines}
 use Rattle.search_model.specs.StoredFormulas.{put_stored, IsOpenStored, IsScopedStored}
@@ -37,8 +37,8 @@ use Rattle.lkf_kernel.specs.Guided.{true_positive, and_positive, or_positive, so
 use Rattle.lkf_kernel.specs.Guided.{initial, IsPicked, ClosesWith, IsCut, lkf_table}
 use Rattle.search_model.proofs.SequentParts.{alone, all_end, stored_all, stored_at, atom_term_open}
 use Rattle.search_model.proofs.SequentParts.{literal_put}
-use Rattle.search_model.proofs.OpenedFacts.{put-dual, put-polarity, open_opened, scoped_opened}
-use Rattle.search_model.proofs.OpenedFacts.{inside_dual, scoped_up}
+use Rattle.polarised_formulas.proofs.OpenedPutFacts.{put-dual, put-polarity, open_opened, scoped_opened}
+use Rattle.polarised_formulas.proofs.OpenedPutFacts.{inside_dual, scoped_up}
 use Rattle.search_model.proofs.ClosedFacts.{fresh_formulas, fresh_stores, formula_opened}
 use Rattle.search_model.proofs.LineSound.{places_by_recursion, IsSound, bare_sound, closed_by_sound}
 use Rattle.search_model.proofs.LineSound.{one_sound, raised_sound, two_sound, indexed_sound}

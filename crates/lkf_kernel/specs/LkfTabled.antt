@@ -15,7 +15,7 @@ use Rattle.polarised_formulas.specs.declared.step.Step.TheVariants.{Store, Decid
 use Rattle.polarised_formulas.specs.declared.step.Step.TheVariants.{Exists, Release, Init}
 use Rattle.clause_language.specs.declared.program.Program.{Program}
 use Rattle.clause_language.specs.Program.{IsOpenProgram}
-use Rattle.search_model.specs.OpenFormula.{AnyBound, IsOpenFormula, IsScopedFormula}
+use Rattle.polarised_formulas.specs.OpenFormula.{AnyBound, IsOpenFormula, IsScopedFormula}
 use Rattle.search_model.specs.Table.{ItemOn, derive, pick, init_pick, cut, level_in, IsTable}
 use Rattle.search_model.specs.TableLaws.{HaveFewParameters}
 use Rattle.search_model.specs.StoredFormulas.{IsOpenStored, IsScopedStored}
@@ -26,7 +26,7 @@ use Rattle.lkf_kernel.specs.declared.sequent.Sequent.{Sequent}
 use Rattle.lkf_kernel.specs.declared.sequent.Sequent.TheVariants.{Up, Down}
 use Rattle.lkf_kernel.specs.Lkf.{is_positive, on_work, on_focus, closings, goal_lists}
 use Rattle.lkf_kernel.specs.Guided.{lkf_table}
-use Rattle.search_model.proofs.OpenFormulaFacts.{inside_more}
+use Rattle.polarised_formulas.proofs.OpenFormulaFacts.{inside_more}
 use Rattle.search_model.proofs.SequentParts.{alone}
 use Rattle.search_model.proofs.LineSound.{places_by_recursion}
 use Rattle.search_model.proofs.LineShort.{IsShort, bare_short, closed_by_short, one_short}

@@ -9,9 +9,9 @@ use fpc_base::outside::OutOfMemory;
 use fpc_terms::term::TermBuf;
 use polarised_formulas::formula::Formula;
 use polarised_formulas::list::Formulas;
+use polarised_formulas::substitution::{formula_with_term, formulas_with_term};
 use search_model::lines::variable;
 use search_model::stored::Store;
-use search_model::substitution::{formula_with_term, formulas_with_term};
 use std::alloc::Global;
 
 /// A sequent of LKF. Its formulas and indexes may have variables.

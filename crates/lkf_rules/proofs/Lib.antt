@@ -4,3 +4,4 @@ pub mod InitialFacts
 pub mod StepFacts
 pub mod Complete
 pub mod SameSequents
+pub mod Low

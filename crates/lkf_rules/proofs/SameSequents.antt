@@ -15,9 +15,11 @@ use Rattle.polarised_formulas.specs.Scope.{is_scoped, may_be_cut}
 use Rattle.polarised_formulas.proofs.SameScopes.{is_scoped-same, may_be_cut-same}
 use Rattle.lkf_rules.specs.Rule.{is_storable}
 use Rattle.lkf_rules.specs.Premises.{where_positive, where_negative, decided, closed_with, worked, chosen, focused, premises_of}
-use Rattle.fpc_terms.proofs.SameTerms.{SameTerm, same_eigen, SameList, same_nil, same_cons, SameOption, same_none, same_some, if-same, append-same, slice_get-same, same_args-same}
-use Rattle.polarised_formulas.proofs.SameFormulas.{SameFormula, same_truth, same_falsity, same_atom, same_conj, same_disj, same_implies, same_for_all, same_exists, polarity_of-same, dual_of-same, open_at-same}
-use Rattle.polarised_formulas.proofs.SameSteps.{IsNameless, SameStep, same_exists_step, same_left_every, same_right_exists, same_cut, same_nameless}
+use Rattle.fpc_terms.specs.Same.{SameTerm, same_eigen, SameList, same_nil, same_cons, SameOption, same_none, same_some}
+use Rattle.fpc_terms.proofs.SameTerms.{if-same, append-same, slice_get-same, same_args-same}
+use Rattle.polarised_formulas.specs.Same.{SameFormula, same_truth, same_falsity, same_atom, same_conj, same_disj, same_implies, same_for_all, same_exists}
+use Rattle.polarised_formulas.proofs.SameFormulas.{polarity_of-same, dual_of-same, open_at-same}
+use Rattle.polarised_formulas.specs.Same.{IsNameless, SameStep, same_exists_step, same_left_every, same_right_exists, same_cut, same_nameless}
 
 -- the two sequents are the same but for their names, which are related
 pub data SameSequent (S : ℕ → ℕ → Type 0) : Sequent → Sequent → Type 0 where

@@ -62,10 +62,15 @@ pub mod Explained
 pub mod PlainNamed
 pub mod SameFormulas
 pub mod SameReadings
-pub mod SameSteps
 pub mod Following
 pub mod Elements
 pub mod Leaves
 pub mod ScopeNodes
 pub mod SameScopes
 pub mod Calculus
+pub mod ArityFacts
+pub mod OpenFormulaFacts
+pub mod NodePutFacts
+pub mod OpenedPutFacts
+pub mod SameTexts
+pub mod TableGrowth

@@ -12,18 +12,9 @@ use Rattle.polarised_formulas.specs.Formula.{Formula, truth, falsity, atom, conj
 use Rattle.polarised_formulas.specs.Written.{WrittenFormula, true_unit, false_unit, literal, pair, bind, index_in, variable_meant, joined_by, bound_by, formula_meant}
 use Rattle.polarised_formulas.specs.PlainForm.{begins_name}
 use Rattle.polarised_formulas.specs.EachName.{EachName, EachNameOf, EachNameIn}
-use Rattle.fpc_terms.proofs.SameTerms.{SameTerm, SameArgs, same_bound, same_variable, same_app, same_no_args, same_arg, if-same, open_args-same}
-
--- the two formulas are the same but for their names, which are related
-pub data SameFormula (S : ℕ → ℕ → Type 0) : Formula → Formula → Type 0 where
-  same_truth : (p : Polarity) → SameFormula S (truth p) (truth p)
-  same_falsity : (p : Polarity) → SameFormula S (falsity p) (falsity p)
-  same_atom : (positive : Bool) → {f g : ℕ} {ts us : Args} → S f g → SameArgs S ts us → SameFormula S (atom positive f ts) (atom positive g us)
-  same_conj : (p : Polarity) → {a b c d : Formula} → SameFormula S a c → SameFormula S b d → SameFormula S (conj p a b) (conj p c d)
-  same_disj : (p : Polarity) → {a b c d : Formula} → SameFormula S a c → SameFormula S b d → SameFormula S (disj p a b) (disj p c d)
-  same_implies : {a b c d : Formula} → SameFormula S a c → SameFormula S b d → SameFormula S (implies a b) (implies c d)
-  same_for_all : {a c : Formula} → SameFormula S a c → SameFormula S (for_all a) (for_all c)
-  same_exists : {a c : Formula} → SameFormula S a c → SameFormula S (exists a) (exists c)
+use Rattle.fpc_terms.specs.Same.{SameTerm, SameArgs, same_bound, same_variable, same_app, same_no_args, same_arg}
+use Rattle.fpc_terms.proofs.SameTerms.{if-same, open_args-same}
+use Rattle.polarised_formulas.specs.Same.{SameFormula, same_truth, same_falsity, same_atom, same_conj, same_disj, same_implies, same_for_all, same_exists}
 
 module _ (number renumber : List ℕ → ℕ) where
   -- the two numbers are those of one name, which begins as one, by the two numberings

@@ -11,8 +11,10 @@ use Rattle.polarised_formulas.specs.PlainReading.{Operator, conjunction, disjunc
 use Rattle.polarised_formulas.specs.PlainForm.{begins_name}
 use Rattle.polarised_formulas.specs.PlainLimits.{name_length, arguments_of, arguments_before, nesting, limit_of}
 use Rattle.polarised_formulas.proofs.Lookups.{begins_name-snoc, begins_name-one}
-use Rattle.fpc_terms.proofs.SameTerms.{SameTerm, SameArgs, same_eigen, same_bound, same_app, same_no_args, same_arg, SameList, same_nil, same_cons, if-same, length-same}
-use Rattle.polarised_formulas.proofs.SameFormulas.{SameFormula, same_truth, same_falsity, same_atom, same_conj, same_disj, same_implies, same_for_all, same_exists, SameName, same-name}
+use Rattle.fpc_terms.specs.Same.{SameTerm, SameArgs, same_eigen, same_bound, same_app, same_no_args, same_arg, SameList, same_nil, same_cons}
+use Rattle.fpc_terms.proofs.SameTerms.{if-same, length-same}
+use Rattle.polarised_formulas.specs.Same.{SameFormula, same_truth, same_falsity, same_atom, same_conj, same_disj, same_implies, same_for_all, same_exists}
+use Rattle.polarised_formulas.proofs.SameFormulas.{SameName, same-name}
 
 -- the two holes are the same but for the numbers of names
 pub data SameHole (S : ℕ → ℕ → Type 0) : Hole → Hole → Type 0 where

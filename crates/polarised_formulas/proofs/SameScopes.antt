@@ -1,11 +1,11 @@
 -- The tests of scope on terms and formulas that are the same but for the numbers of names.
 use Rattle.std.proofs.Common.{◌≡◌, ℕ, suc, ◌&&◌, refl, ap₂}
 use Rattle.fpc_terms.specs.Term.{Term, Args}
-use Rattle.fpc_terms.proofs.SameTerms.{SameTerm, SameArgs, same_eigen, same_bound, same_variable, same_app, same_no_args, same_arg}
+use Rattle.fpc_terms.specs.Same.{SameTerm, SameArgs, same_eigen, same_bound, same_variable, same_app, same_no_args, same_arg}
 use Rattle.polarised_formulas.specs.declared.logic.Logic.{Logic}
 use Rattle.polarised_formulas.specs.Formula.{Formula}
 use Rattle.polarised_formulas.specs.Scope.{is_scoped, are_scoped, has_implication, has_disjunction, may_be_cut}
-use Rattle.polarised_formulas.proofs.SameFormulas.{SameFormula, same_truth, same_falsity, same_atom, same_conj, same_disj, same_implies, same_for_all, same_exists}
+use Rattle.polarised_formulas.specs.Same.{SameFormula, same_truth, same_falsity, same_atom, same_conj, same_disj, same_implies, same_for_all, same_exists}
 
 module _ (S : ℕ → ℕ → Type 0) where
   mutual

@@ -6,3 +6,4 @@ pub mod Certificate
 pub mod Play
 pub mod Lawful
 pub mod Laws
+pub mod Low

@@ -30,3 +30,6 @@ pub mod OneAnswer
 pub mod Adding
 pub mod Scope
 pub mod Calculus
+pub mod OpenFormula
+pub mod NodePut
+pub mod Same

@@ -1,6 +1,7 @@
 //! Formulas with polarity in both logics, the steps of proofs, and problems.
 #![tactic(auto)]
 
+pub mod arity;
 mod bound;
 pub mod builder;
 pub mod connective;
@@ -22,6 +23,8 @@ pub mod scope;
 pub mod shape;
 pub mod step;
 pub mod step_list;
+pub mod step_substitution;
+pub mod substitution;
 
 pub use formula::Formula;
 pub use list::Formulas;

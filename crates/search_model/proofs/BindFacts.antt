@@ -10,7 +10,8 @@ use Rattle.fpc_terms.proofs.LevelFacts.{IsPassed, ArePassed, passed_scoped, leng
 use Rattle.fpc_terms.proofs.PutFacts.{put_agrees, puts-puts, each_more, ground_put, opens_put, at_one_open, at_one_same, at_one_other}
 use Rattle.clause_language.specs.declared.clause.Clause.{Clause}
 use Rattle.search_model.specs.Search.{SearchCalculus, equate, Alternative, with_goals, bound_to}
-use Rattle.search_model.specs.Lawful.{IsOpenAt, IsGoal, IsLawful}
+use Rattle.fpc_terms.specs.Open.{IsOpenAt}
+use Rattle.search_model.specs.Lawful.{IsGoal, IsLawful}
 use Rattle.search_model.proofs.Fine.{IsFine}
 use Rattle.search_model.proofs.SpelledFacts.{spelled_put, steps-put, goals_put}
 

@@ -6,12 +6,12 @@ use Rattle.fpc_terms.specs.Term.{Term, variable, put, Each, Never, Always}
 use Rattle.fpc_terms.specs.Open.{IsOpen, Level, level_of, IsAtMost, IsScopedAt, IsClosing}
 use Rattle.fpc_terms.proofs.PutFacts.{put_agrees, each_more}
 use Rattle.polarised_formulas.specs.Formula.{Formula, open_at, EachInside, Tied, IsProper}
-use Rattle.search_model.specs.OpenFormula.{put_formula, AnyBound, IsOpenFormula, IsScopedFormula}
+use Rattle.polarised_formulas.specs.OpenFormula.{put_formula, AnyBound, IsOpenFormula, IsScopedFormula}
 use Rattle.search_model.specs.StoredFormulas.{put_stored, IsOpenStored, IsScopedStored}
 use Rattle.search_model.specs.declared.stored.Stored.{Stored}
-use Rattle.search_model.proofs.OpenFormulaFacts.{put_same, formula_same, formula_agrees}
-use Rattle.search_model.proofs.OpenFormulaFacts.{inside_more, inside_put}
-use Rattle.search_model.proofs.OpenedFacts.{put-open_at}
+use Rattle.polarised_formulas.proofs.OpenFormulaFacts.{put_same, formula_same, formula_agrees}
+use Rattle.polarised_formulas.proofs.OpenFormulaFacts.{inside_more, inside_put}
+use Rattle.polarised_formulas.proofs.OpenedPutFacts.{put-open_at}
 use Rattle.search_model.proofs.SequentParts.{stores_same, works_same, work_agrees, works_agree}
 use Rattle.search_model.proofs.SequentParts.{stores_agree}
 

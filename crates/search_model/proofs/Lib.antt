@@ -6,7 +6,6 @@ pub mod ExtendFacts
 pub mod Sound
 pub mod ChoiceFacts
 pub mod ClosingFacts
-pub mod OpenFormulaFacts
 pub mod TableFacts
 pub mod NaturalFacts
 pub mod OddFacts
@@ -38,11 +37,9 @@ pub mod ChosenFacts
 pub mod SolveAnswer
 pub mod GoalsMet
 pub mod TestFacts
-pub mod NodePutFacts
 pub mod ItemLevels
 pub mod LineTerms
 pub mod Roots
-pub mod OpenedFacts
 pub mod SequentParts
 pub mod ClosedFacts
 pub mod LineSound

@@ -16,7 +16,7 @@ use Rattle.clause_language.specs.declared.clause.Clause.{Clause}
 use Rattle.clause_language.specs.declared.declaration.DeclaredFormula.{DeclaredFormula}
 use Rattle.clause_language.specs.LeastModel.{Holds, AreOpenClauses}
 use Rattle.clause_language.proofs.LeastModelFacts.{holds_ground}
-use Rattle.search_model.specs.OpenFormula.{put_formula, put_step}
+use Rattle.polarised_formulas.specs.OpenFormula.{put_formula, put_step}
 use Rattle.search_model.specs.Search.{SearchCalculus, Goal, emit, item}
 use Rattle.search_model.specs.Lawful.{Spelled}
 use Rattle.search_model.specs.Table.{ItemOn, derive, pick, init_pick, cut, Table, calculus_of}
@@ -25,7 +25,7 @@ use Rattle.search_model.specs.Lines.{Line, atom_of, arguments_from, bare, closed
 use Rattle.search_model.specs.Lines.{two, indexed, witnessed, sided, picked, init_picked, cutting}
 use Rattle.search_model.specs.Lines.{matched, at_place, closing_at, cut_of, where_so, at_places}
 use Rattle.search_model.specs.declared.stored.Stored.{Stored}
-use Rattle.search_model.proofs.OpenFormulaFacts.{formula-put, formula_agrees}
+use Rattle.polarised_formulas.proofs.OpenFormulaFacts.{formula-put, formula_agrees}
 use Rattle.search_model.proofs.TableFacts.{sequent_closed}
 use Rattle.search_model.proofs.NaturalFacts.{IsGiven}
 use Rattle.search_model.proofs.ClosedFacts.{closed_term}

@@ -12,7 +12,7 @@ use Rattle.polarised_formulas.specs.Formula.{Formula, open_at, EachInside}
 use Rattle.polarised_formulas.specs.declared.step.Step.{Step}
 use Rattle.polarised_formulas.specs.declared.step.Step.TheVariants.{Cut}
 use Rattle.clause_language.specs.declared.declaration.DeclaredFormula.{DeclaredFormula}
-use Rattle.search_model.specs.OpenFormula.{put_formula, put_step, AnyBound, IsOpenFormula}
+use Rattle.polarised_formulas.specs.OpenFormula.{put_formula, put_step, AnyBound, IsOpenFormula}
 use Rattle.search_model.specs.Search.{SearchCalculus, Goal, call, equate, emit, item}
 use Rattle.search_model.specs.Lawful.{both, put_list}
 use Rattle.search_model.specs.Table.{ItemOn, derive, pick, init_pick, cut, Table, calculus_of}
@@ -22,10 +22,10 @@ use Rattle.search_model.specs.Lines.{Line, atom_of, arguments_from, closed_by, o
 use Rattle.search_model.specs.Lines.{indexed, witnessed, sided, picked, init_picked, cutting}
 use Rattle.search_model.specs.Lines.{matched, at_place, closing_at, cut_of, where_so, at_places}
 use Rattle.search_model.specs.declared.stored.Stored.{Stored}
-use Rattle.search_model.proofs.OpenFormulaFacts.{formula-put, formula_agrees}
+use Rattle.polarised_formulas.proofs.OpenFormulaFacts.{formula-put, formula_agrees}
 use Rattle.search_model.proofs.ClosingFacts.{both_below, both_later}
 use Rattle.search_model.proofs.SequentParts.{work_agrees}
-use Rattle.search_model.proofs.OpenedFacts.{put-open_at}
+use Rattle.polarised_formulas.proofs.OpenedPutFacts.{put-open_at}
 
 -- goal lists of equal parts
 module _ {S : Type 0} where

@@ -2,14 +2,14 @@
 use Rattle.std.proofs.Common.{◌≡◌, ℕ, zero, suc, ◌+◌, Bool, true, false, ◌&&◌, nat_eq, List, [], ◌∷◌, map, replicate, None, Some, refl, ap₂, subst}
 use Rattle.fpc_terms.specs.Open.{later}
 use Rattle.fpc_terms.specs.Term.{Term}
-use Rattle.fpc_terms.proofs.SameTerms.{SameTerm, SameArgs, same_eigen, same_variable, same_app, same_no_args, same_arg, SameList, same_nil, same_cons}
+use Rattle.fpc_terms.specs.Same.{SameTerm, SameArgs, same_eigen, same_variable, same_app, same_no_args, same_arg, SameList, same_nil, same_cons}
 use Rattle.polarised_formulas.specs.Formula.{Formula}
 use Rattle.polarised_formulas.specs.declared.step.Step.{Step}
-use Rattle.polarised_formulas.proofs.SameFormulas.{SameFormula, same_truth, same_falsity, same_atom, same_conj, same_disj, same_implies, same_for_all, same_exists}
-use Rattle.polarised_formulas.proofs.SameSteps.{SameStep, same_cut}
+use Rattle.polarised_formulas.specs.Same.{SameFormula, same_truth, same_falsity, same_atom, same_conj, same_disj, same_implies, same_for_all, same_exists}
+use Rattle.polarised_formulas.specs.Same.{SameStep, same_cut}
 use Rattle.clause_language.specs.declared.declaration.DeclaredFormula.{DeclaredFormula}
 use Rattle.search_model.specs.Lines.{Line, arguments_from, bare, closed_by, one, raised, two, indexed, witnessed, sided, picked, init_picked, cutting, matched, at_place, closing_at, cut_of, where_so, at_places, atom_term, is_literal}
-use Rattle.search_model.specs.OpenFormula.{put_formula}
+use Rattle.polarised_formulas.specs.OpenFormula.{put_formula}
 use Rattle.search_model.specs.Same.{IsOneToOne, AreRelated, related_nil, related_cons, SameAtom, SameDeclared, SameStored, same_derive, same_pick, same_init_pick, same_cut_item, same_call, same_equate, same_emit, same_item, same_goal_list, SameLine}
 use Rattle.search_model.specs.StoredFormulas.{put_stored}
 use Rattle.search_model.specs.declared.stored.Stored.{Stored}

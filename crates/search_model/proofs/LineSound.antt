@@ -16,10 +16,11 @@ use Rattle.clause_language.specs.declared.atom.Atom.{Atom}
 use Rattle.clause_language.specs.declared.clause.Clause.{Clause}
 use Rattle.clause_language.specs.declared.declaration.DeclaredFormula.{DeclaredFormula}
 use Rattle.clause_language.specs.LeastModel.{Holds}
-use Rattle.search_model.specs.OpenFormula.{put_formula, put_step, AnyBound, IsOpenFormula}
-use Rattle.search_model.specs.OpenFormula.{IsScopedFormula, IsOpenStep}
+use Rattle.polarised_formulas.specs.OpenFormula.{put_formula, put_step, AnyBound, IsOpenFormula}
+use Rattle.polarised_formulas.specs.OpenFormula.{IsScopedFormula, IsOpenStep}
 use Rattle.search_model.specs.Search.{SearchCalculus, Goal, call, equate, emit, item}
-use Rattle.search_model.specs.Lawful.{IsOpenAt, Spelled, IsGoal, AreGoals}
+use Rattle.fpc_terms.specs.Open.{IsOpenAt}
+use Rattle.search_model.specs.Lawful.{Spelled, IsGoal, AreGoals}
 use Rattle.search_model.specs.Table.{ItemOn, derive, pick, init_pick, cut, Table, calculus_of}
 use Rattle.search_model.specs.Table.{AreSequents}
 use Rattle.search_model.specs.TableLaws.{AreSoundLines}
@@ -27,7 +28,7 @@ use Rattle.search_model.specs.Lines.{Line, atom_of, arguments_from, bare, closed
 use Rattle.search_model.specs.Lines.{two, indexed, witnessed, sided, picked, init_picked, cutting}
 use Rattle.search_model.specs.Lines.{matched, at_place, closing_at, cut_of, where_so, at_places}
 use Rattle.search_model.specs.declared.stored.Stored.{Stored}
-use Rattle.search_model.proofs.OpenFormulaFacts.{formula-put, inside_put}
+use Rattle.polarised_formulas.proofs.OpenFormulaFacts.{formula-put, inside_put}
 use Rattle.search_model.proofs.TableFacts.{item_open_more, item_scoped_more}
 use Rattle.search_model.proofs.SequentParts.{alone}
 

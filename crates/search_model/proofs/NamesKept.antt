@@ -1,19 +1,22 @@
 -- The names of what a search finds stand in the table that holds those of the clauses and of the question.
 use Rattle.std.proofs.Common.{◌≡◌, ℕ, ◌<◌, nat_eq, List, [], ◌∷◌, length, codes, get_or, refl, ap, ap₂}
-use Rattle.fpc_terms.specs.Term.{Term, Args, eigen, bound, variable, app, no_args, arg}
+use Rattle.fpc_terms.specs.Term.{Term}
 use Rattle.fpc_terms.specs.Text.{name_in}
-use Rattle.fpc_terms.specs.Printing.{HasNamesBelow, HaveNamesBelow}
-use Rattle.fpc_terms.proofs.SameTerms.{SameTerm, SameArgs, same_eigen, same_bound, same_variable, same_app, same_no_args, same_arg, SameList, same_nil, same_cons}
+use Rattle.fpc_terms.specs.Printing.{HasNamesBelow}
+use Rattle.fpc_terms.specs.Same.{SameTerm, SameList, same_nil, same_cons}
+use Rattle.fpc_terms.proofs.SameTexts.{term_itself, term_named}
+use Rattle.polarised_formulas.proofs.SameTexts.{formula_itself}
 use Rattle.clause_language.specs.declared.atom.Atom.{Atom}
 use Rattle.clause_language.specs.declared.clause.Clause.{Clause}
+use Rattle.clause_language.specs.declared.declaration.DeclaredFormula.{DeclaredFormula}
 use Rattle.clause_language.specs.declared.program.Program.{Program}
 use Rattle.clause_language.specs.declared.word_ids.WordIds.{WordIds}
-use Rattle.clause_language.specs.Program.{HaveWords}
-use Rattle.clause_language.specs.Naming.{AreTermsNamedBelow, IsAtomNamedBelow, AreAtomsNamedBelow, AreClausesNamedBelow}
+use Rattle.clause_language.specs.Program.{HaveWords, ids_of}
+use Rattle.clause_language.specs.Naming.{AreTermsNamedBelow, IsAtomNamedBelow, AreAtomsNamedBelow, AreClausesNamedBelow, AreDeclaredNamedBelow}
 use Rattle.search_model.specs.Run.{ended}
 use Rattle.search_model.specs.Search.{Alternative, accepted}
 use Rattle.search_model.specs.Solve.{Nothing, solving, solved_atom, IsAccepted}
-use Rattle.search_model.specs.Same.{SameAtom, SameClause}
+use Rattle.search_model.specs.Same.{SameAtom, SameClause, SameDeclared, SameProgram}
 use Rattle.search_model.proofs.Renaming.{solved-same, endings_tell}
 use Rattle.search_model.proofs.SameNames.{below_where_named}
 
@@ -21,59 +24,61 @@ use Rattle.search_model.proofs.SameNames.{below_where_named}
 abbrev IsOneBelow : ℕ → ℕ → ℕ → Type 0
 IsOneBelow n f g = (f ≡ g) × (f < n)
 
+one_itself : (n f : ℕ) → f < n → IsOneBelow n f f
+one_itself n f l = (refl, l)
+
 one_below : (n f g h k : ℕ) → IsOneBelow n f h → IsOneBelow n g k → nat_eq f g ≡ nat_eq h k
 one_below n f g h k (e, i) (d, j) = ap₂ (λ x y. nat_eq x y) e d
 
-module _ (n : ℕ) where
-  mutual
-    term-kept : (t : Term) → HasNamesBelow n t → SameTerm (IsOneBelow n) t t
-    term-kept (eigen k) h = same_eigen k
-    term-kept (bound k) h = same_bound k
-    term-kept (variable k) h = same_variable k
-    term-kept (app f ts) (h, hs) = same_app (refl, h) (args-kept ts hs)
+module _ (S : ℕ → ℕ → Type 0) (n : ℕ) where
+  -- where each number below n is related to itself
+  module _ (self : (f : ℕ) → f < n → S f f) where
+    terms_itself : (ts : List Term) → AreTermsNamedBelow n ts → SameList (SameTerm S) ts ts
+    terms_itself [] h = same_nil
+    terms_itself (t ∷ ts) h = same_cons (term_itself S n self t h.0) (terms_itself ts h.1)
 
-    args-kept : (ts : Args) → HaveNamesBelow n ts → SameArgs (IsOneBelow n) ts ts
-    args-kept no_args h = same_no_args
-    args-kept (arg t ts) (h, hs) = same_arg (term-kept t h) (args-kept ts hs)
+    atom_itself : (a : Atom) → IsAtomNamedBelow n a → SameAtom S a a
+    atom_itself a h = record { names = self a.name h.0; terms = terms_itself a.arguments h.1 }
 
-  terms-kept : (ts : List Term) → AreTermsNamedBelow n ts → SameList (SameTerm (IsOneBelow n)) ts ts
-  terms-kept [] h = same_nil
-  terms-kept (t ∷ ts) (h, hs) = same_cons (term-kept t h) (terms-kept ts hs)
+    atoms_itself : (body : List Atom) → AreAtomsNamedBelow n body → SameList (SameAtom S) body body
+    atoms_itself [] h = same_nil
+    atoms_itself (a ∷ body) h = same_cons (atom_itself a h.0) (atoms_itself body h.1)
 
-  atom-kept : (a : Atom) → IsAtomNamedBelow n a → SameAtom (IsOneBelow n) a a
-  atom-kept a (h, hs) = record { names = (refl, h); terms = terms-kept a.arguments hs }
+    clauses_itself : (clauses : List Clause) → AreClausesNamedBelow n clauses → SameList (SameClause S) clauses clauses
+    clauses_itself [] h = same_nil
+    clauses_itself (c ∷ cs) h = same_cons (record { heads = atom_itself c.head h.0.0; bodies = atoms_itself c.body h.0.1; as_many = refl }) (clauses_itself cs h.1)
 
-  atoms-kept : (body : List Atom) → AreAtomsNamedBelow n body → SameList (SameAtom (IsOneBelow n)) body body
-  atoms-kept [] h = same_nil
-  atoms-kept (a ∷ body) (h, hs) = same_cons (atom-kept a h) (atoms-kept body hs)
+    declared_itself : (declared : List DeclaredFormula) → AreDeclaredNamedBelow n declared → SameList (SameDeclared S) declared declared
+    declared_itself [] h = same_nil
+    declared_itself (d ∷ ds) h = same_cons (record { names = self d.name h.0.0; as_many = refl; formulas = formula_itself S n self d.formula h.0.1 }) (declared_itself ds h.1)
 
-  clauses-kept : (clauses : List Clause) → AreClausesNamedBelow n clauses → SameList (SameClause (IsOneBelow n)) clauses clauses
-  clauses-kept [] h = same_nil
-  clauses-kept (c ∷ cs) ((h, k), hs) = same_cons (record { heads = atom-kept c.head h; bodies = atoms-kept c.body k; as_many = refl }) (clauses-kept cs hs)
+    -- a program with such names is the same as itself
+    pub program_itself : (p : Program) → SameList S (ids_of p.ids) (ids_of p.ids) → AreDeclaredNamedBelow n p.declared → AreClausesNamedBelow n p.clauses → HasNamesBelow n p.term → SameProgram S p p
+    program_itself p ids declared clauses term = record {
+      in_logic = refl;
+      declared = declared_itself p.declared declared;
+      clauses = clauses_itself p.clauses clauses;
+      terms = term_itself S n self p.term term;
+      as_many = refl;
+      words = ids;
+    }
 
-  mutual
-    term-named : {t u : Term} → SameTerm (IsOneBelow n) t u → HasNamesBelow n t
-    term-named (same_eigen k) = tt
-    term-named (same_bound k) = tt
-    term-named (same_variable k) = tt
-    term-named (same_app (e, h) hs) = (h, args-named hs)
+  -- where what is related to any number is below n
+  module _ (below : (f g : ℕ) → S f g → f < n) where
+    terms_named : {ts us : List Term} → SameList (SameTerm S) ts us → AreTermsNamedBelow n ts
+    terms_named same_nil = tt
+    terms_named (same_cons h hs) = (term_named S n below h, terms_named hs)
 
-    args-named : {ts us : Args} → SameArgs (IsOneBelow n) ts us → HaveNamesBelow n ts
-    args-named same_no_args = tt
-    args-named (same_arg h hs) = (term-named h, args-named hs)
-
-  terms-named : {ts us : List Term} → SameList (SameTerm (IsOneBelow n)) ts us → AreTermsNamedBelow n ts
-  terms-named same_nil = tt
-  terms-named (same_cons h hs) = (term-named h, terms-named hs)
-
-  atom-named : {a b : Atom} → SameAtom (IsOneBelow n) a b → IsAtomNamedBelow n a
-  atom-named h = (h.names.1, terms-named h.terms)
+    atom_named : {a b : Atom} → SameAtom S a b → IsAtomNamedBelow n a
+    atom_named {a = a} {b = b} h = (below a.name b.name h.names, terms_named h.terms)
 
 -- the atom that was found has names below n, where the clauses, the question and the constant for variables that are left have
 pub solved_named : (n : ℕ) (clauses : List Clause) (budget : ℕ) (a : Atom) (variables any units : ℕ) (found : Alternative Nothing Nothing) → AreClausesNamedBelow n clauses → IsAtomNamedBelow n a → any < n
     → solving clauses budget a variables ≡ ended (accepted found) units → IsAtomNamedBelow n (solved_atom any a found)
 solved_named n clauses budget a variables any units found h k s e =
-    atom-named n (solved-same any any (refl, s) (atom-kept n a k) (endings_tell (one_below n) budget variables (clauses-kept n clauses h) (atom-kept n a k) e e).0)
+    let asked : SameAtom (IsOneBelow n) a a = atom_itself (IsOneBelow n) n (one_itself n) a k in
+    atom_named (IsOneBelow n) n (λ f g h. h.1)
+    (solved-same any any (refl, s) asked (endings_tell (one_below n) budget variables (clauses_itself (IsOneBelow n) n (one_itself n) clauses h) asked e e).0)
 
 -- the name of the constant for variables that are left
 pub any_is : (names : List (List ℕ)) (i : WordIds) → HaveWords names i → name_in names i.any ≡ codes "any"

@@ -11,7 +11,7 @@ use Rattle.clause_language.specs.declared.clause.Clause.{Clause}
 use Rattle.search_model.specs.Search.{SearchCalculus, GoalList, put_goal}
 use Rattle.search_model.specs.Lawful.{Spelled, IsLawful, IsComplete, IsNatural, both, put_list}
 use Rattle.search_model.proofs.ClosingFacts.{closing_both}
-use Rattle.search_model.proofs.OpenFormulaFacts.{put_same}
+use Rattle.polarised_formulas.proofs.OpenFormulaFacts.{put_same}
 use Rattle.search_model.proofs.SpelledFacts.{spelled_put}
 
 -- what is in the image of a list is the image of one of it

@@ -4,7 +4,7 @@ use Rattle.clause_language.specs.declared.certificate.Certificate.{Certificate}
 use Rattle.clause_language.specs.declared.definition.Definition.{Definition}
 use Rattle.clause_language.specs.declared.program.Program.{Program}
 use Rattle.clause_language.specs.Program.{IsJoined}
-use Rattle.fpc_terms.proofs.SameTerms.{SameList}
+use Rattle.fpc_terms.specs.Same.{SameList}
 use Rattle.search_model.specs.Renaming.{AnsweredOnce}
 use Rattle.search_model.specs.Same.{AreOneName, SameClause}
 use Rattle.search_model.specs.Solve.{IsSolved}

@@ -1,7 +1,7 @@
 -- Programs that are the same by their names have the same answers.
 use Rattle.std.proofs.Common.{◌≡◌, ℕ, ◌<◌, ◌≤◌, List, length, sym, ap, ◌∙◌, arith}
 use Rattle.fpc_terms.specs.Name.{AreDifferent}
-use Rattle.fpc_terms.proofs.SameTerms.{SameList}
+use Rattle.fpc_terms.specs.Same.{SameList}
 use Rattle.clause_language.specs.declared.atom.Atom.{Atom}
 use Rattle.clause_language.specs.declared.program.Program.{Program}
 use Rattle.clause_language.specs.Program.{HaveWords}

@@ -1,10 +1,10 @@
 -- What a search finds is the same but for the numbers of names, and so it has the same text.
-use Rattle.std.proofs.Common.{◌≡◌, ℕ, List, ◌∷◌, ◌++◌, refl, ap, ap₂}
-use Rattle.std.specs.Fmt.{decimal}
-use Rattle.fpc_terms.specs.Term.{Term, Args}
+use Rattle.std.proofs.Common.{◌≡◌, ℕ, List, refl}
+use Rattle.fpc_terms.specs.Term.{Term}
 use Rattle.fpc_terms.specs.Open.{constant}
-use Rattle.fpc_terms.specs.Text.{name_in, plain_leaves, term_before, args_before, more_before}
-use Rattle.fpc_terms.proofs.SameTerms.{SameTerm, SameArgs, same_eigen, same_bound, same_variable, same_app, same_no_args, same_arg, SameList, same_nil, same_cons}
+use Rattle.fpc_terms.specs.Text.{name_in}
+use Rattle.fpc_terms.specs.Same.{SameTerm, SameArgs, same_app, same_no_args, same_arg, SameList, same_nil, same_cons}
+use Rattle.fpc_terms.proofs.SameTexts.{term_before-same}
 use Rattle.clause_language.specs.declared.atom.Atom.{Atom}
 use Rattle.clause_language.specs.declared.clause.Clause.{Clause}
 use Rattle.clause_language.specs.LeastModel.{fits}
@@ -52,24 +52,6 @@ endings_tell {S = S} one budget variables ss h p q = told_alike S SameNothing Sa
 
 -- related names are the same, each by its own table
 module _ (names others : List (List ℕ)) {S : ℕ → ℕ → Type 0} (named : (m n : ℕ) → S m n → name_in names m ≡ name_in others n) where
-  mutual
-    term_before-same : {t u : Term} {rest more : List ℕ} → SameTerm S t u → rest ≡ more
-        → term_before (plain_leaves (name_in names)) t rest ≡ term_before (plain_leaves (name_in others)) u more
-    term_before-same (same_eigen n) e = ap (λ w. 36 ∷ (decimal n ++ w)) e
-    term_before-same (same_bound k) e = ap (λ w. (35 ∷ decimal k) ++ w) e
-    term_before-same (same_variable v) e = ap (λ w. (86 ∷ decimal v) ++ w) e
-    term_before-same (same_app {f = f} {g = g} s hs) e = ap₂ (λ x y. x ++ y) (named f g s) (args_before-same hs e)
-
-    args_before-same : {ts us : Args} {rest more : List ℕ} → SameArgs S ts us → rest ≡ more
-        → args_before (plain_leaves (name_in names)) ts rest ≡ args_before (plain_leaves (name_in others)) us more
-    args_before-same same_no_args e = e
-    args_before-same (same_arg h hs) e = ap (λ w. 40 ∷ w) (term_before-same h (more_before-same hs e))
-
-    more_before-same : {ts us : Args} {rest more : List ℕ} → SameArgs S ts us → rest ≡ more
-        → more_before (plain_leaves (name_in names)) ts rest ≡ more_before (plain_leaves (name_in others)) us more
-    more_before-same same_no_args e = ap (λ w. 41 ∷ w) e
-    more_before-same (same_arg h hs) e = ap (λ w. 44 ∷ w) (term_before-same h (more_before-same hs e))
-
   -- the text of an atom
   pub atom_text-same : {a b : Atom} → SameAtom S a b → atom_text names a ≡ atom_text others b
-  atom_text-same h = term_before-same (same_app h.names (args_of-same h.terms)) refl
+  atom_text-same h = term_before-same (name_in names) (name_in others) named (same_app h.names (args_of-same h.terms)) refl

@@ -12,7 +12,7 @@ use Rattle.clause_language.specs.LeastModel.{fits}
 use Rattle.clause_language.specs.Program.{IsOpenProgram}
 use Rattle.search_model.specs.Checking.{checking, trace_of, IsTraced, IsCompletedBy, IsOutcomeRight}
 use Rattle.search_model.specs.Lawful.{IsGoal, IsComplete, IsLawful}
-use Rattle.search_model.specs.OpenFormula.{put_step}
+use Rattle.polarised_formulas.specs.OpenFormula.{put_step}
 use Rattle.search_model.specs.Run.{ended}
 use Rattle.search_model.specs.Search.{Alternative, Answer, State, accepted, answer, item, rejected, search, start, step}
 use Rattle.search_model.specs.Table.{ItemOn, derive, Table, calculus_of, AreSequents, IsTable}

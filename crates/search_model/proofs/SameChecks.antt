@@ -1,15 +1,16 @@
 -- Searches for goals that are the same by their names, by programs that are, have one outcome.
 use Rattle.std.proofs.Common.{◌≡◌, ℕ, List, [], sym, subst}
 use Rattle.fpc_terms.specs.Open.{constant}
-use Rattle.fpc_terms.proofs.SameTerms.{SameList, same_nil, length-same, slice_get-same}
+use Rattle.fpc_terms.specs.Same.{SameList, same_nil}
+use Rattle.fpc_terms.proofs.SameTerms.{length-same, slice_get-same}
 use Rattle.polarised_formulas.specs.Formula.{Formula}
 use Rattle.polarised_formulas.specs.declared.step.Step.{Step}
-use Rattle.polarised_formulas.proofs.SameFormulas.{SameFormula}
-use Rattle.polarised_formulas.proofs.SameSteps.{SameStep}
+use Rattle.polarised_formulas.specs.Same.{SameFormula}
+use Rattle.polarised_formulas.specs.Same.{SameStep}
 use Rattle.clause_language.specs.LeastModel.{fits}
 use Rattle.clause_language.specs.declared.program.Program.{Program}
 use Rattle.search_model.specs.Checking.{trace_of, checking, IsTraced, IsOutcome}
-use Rattle.search_model.specs.OpenFormula.{put_step}
+use Rattle.polarised_formulas.specs.OpenFormula.{put_step}
 use Rattle.search_model.specs.Run.{Ending, ended, spent}
 use Rattle.search_model.specs.Same.{IsOneToOne, SameProgram, SameItem, same_derive, same_item, SameAlternative, same_alternative, SameAnswer, SameEnding, AreSameTables, SameOutcome}
 use Rattle.search_model.specs.Search.{item, Alternative, Answer, accepted, rejected, search}

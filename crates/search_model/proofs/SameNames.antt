@@ -8,7 +8,7 @@ use Rattle.std.proofs.lemmas.Bool.Decides.{Decides-eqb, Decides-like, same_from_
 use Rattle.std.proofs.lemmas.Option.{slice_get-get_or}
 use Rattle.fpc_terms.specs.Name.{AreDifferent, index_in}
 use Rattle.fpc_terms.specs.Text.{name_in}
-use Rattle.fpc_terms.proofs.SameTerms.{SameList, same_nil, same_cons}
+use Rattle.fpc_terms.specs.Same.{SameList, same_nil, same_cons}
 use Rattle.clause_language.specs.declared.word_ids.WordIds.{WordIds}
 use Rattle.clause_language.specs.Program.{words, ids_of, HaveWords}
 use Rattle.search_model.specs.Same.{IsOneToOne, AreOneName}

@@ -11,7 +11,8 @@ use Rattle.fpc_terms.specs.Term.{Term, Args, no_args, arg, terms_in}
 use Rattle.fpc_terms.specs.Written.{WrittenTerm, WrittenArgs, variable_word, application, no_words, words, IsKnown, AreKnown, term_meant, args_meant}
 use Rattle.fpc_terms.proofs.NamesBelow.{number-below, args-below}
 use Rattle.fpc_terms.proofs.ReadFacts.{Agrees-index_in}
-use Rattle.fpc_terms.proofs.SameTerms.{SameTerm, SameArgs, same_bound, same_variable, same_app, same_no_args, same_arg, SameList, same_nil, same_cons, if-same, append-same}
+use Rattle.fpc_terms.specs.Same.{SameTerm, SameArgs, same_bound, same_variable, same_app, same_no_args, same_arg, SameList, same_nil, same_cons}
+use Rattle.fpc_terms.proofs.SameTerms.{if-same, append-same}
 use Rattle.fpc_terms.proofs.TermReading.{is-whole}
 use Rattle.polarised_formulas.specs.declared.connective.Joiner.TheVariants.{And, Or, Implies}
 use Rattle.polarised_formulas.specs.declared.connective.Binder.TheVariants.{ForAll, Exists}
@@ -22,7 +23,7 @@ use Rattle.polarised_formulas.specs.ReadProblem.{ProblemIsRead}
 use Rattle.polarised_formulas.specs.Written.{WrittenFormula, true_unit, false_unit, literal, pair, bind, WrittenProblem, variable_meant, formula_meant}
 use Rattle.polarised_formulas.proofs.FormulaNames.{told-names}
 use Rattle.polarised_formulas.proofs.ProblemReading.{problem-read_once}
-use Rattle.polarised_formulas.proofs.SameFormulas.{SameFormula, same_truth, same_falsity, same_atom, same_conj, same_disj, same_implies, same_for_all, same_exists}
+use Rattle.polarised_formulas.specs.Same.{SameFormula, same_truth, same_falsity, same_atom, same_conj, same_disj, same_implies, same_for_all, same_exists}
 use Rattle.clause_language.specs.declared.atom.Atom.{Atom}
 use Rattle.clause_language.specs.declared.clause.Clause.{Clause}
 use Rattle.clause_language.specs.declared.definition.Definition.{Definition}

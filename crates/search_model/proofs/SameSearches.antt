@@ -3,7 +3,8 @@ use Rattle.std.proofs.Common.{◌≡◌, ℕ, zero, suc, Bool, true, false, ◌&
 use Rattle.fpc_terms.specs.Term.{Term, Args, put}
 use Rattle.fpc_terms.specs.Open.{level_of, at_one, later, lower_in}
 use Rattle.fpc_terms.specs.Equality.{Equality}
-use Rattle.fpc_terms.proofs.SameTerms.{SameTerm, SameArgs, same_variable, same_no_args, same_arg, SameList, same_nil, same_cons, SameOption, same_none, same_some, length-same}
+use Rattle.fpc_terms.specs.Same.{SameTerm, SameArgs, same_variable, same_no_args, same_arg, SameList, same_nil, same_cons, SameOption, same_none, same_some}
+use Rattle.fpc_terms.proofs.SameTerms.{length-same}
 use Rattle.clause_language.specs.declared.atom.Atom.{Atom}
 use Rattle.clause_language.specs.declared.clause.Clause.{Clause}
 use Rattle.clause_language.specs.LeastModel.{put_atom, fits}

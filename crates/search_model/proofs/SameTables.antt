@@ -1,13 +1,13 @@
 -- Tables that are the same but for the numbers of names give calculi that are.
 use Rattle.std.proofs.Common.{◌≡◌, ℕ, refl, sym, subst}
 use Rattle.fpc_terms.specs.Term.{Term}
-use Rattle.fpc_terms.proofs.SameTerms.{SameTerm}
+use Rattle.fpc_terms.specs.Same.{SameTerm}
 use Rattle.polarised_formulas.specs.Formula.{Formula}
 use Rattle.polarised_formulas.specs.declared.step.Step.{Step}
 use Rattle.polarised_formulas.specs.declared.step.Step.TheVariants as step
-use Rattle.polarised_formulas.proofs.SameFormulas.{SameFormula, same_truth, same_falsity, same_atom, same_conj, same_disj, same_implies, same_for_all, same_exists}
-use Rattle.polarised_formulas.proofs.SameSteps.{IsNameless, SameStep, same_exists_step, same_left_every, same_right_exists, same_cut, same_nameless}
-use Rattle.search_model.specs.OpenFormula.{put_formula, put_step}
+use Rattle.polarised_formulas.specs.Same.{SameFormula, same_truth, same_falsity, same_atom, same_conj, same_disj, same_implies, same_for_all, same_exists}
+use Rattle.polarised_formulas.specs.Same.{IsNameless, SameStep, same_exists_step, same_left_every, same_right_exists, same_cut, same_nameless}
+use Rattle.polarised_formulas.specs.OpenFormula.{put_formula, put_step}
 use Rattle.search_model.specs.Same.{SameItem, same_derive, same_pick, same_init_pick, same_cut_item, AreSameCalculi, AreSameTables}
 use Rattle.search_model.specs.Table.{ItemOn, Table, calculus_of}
 use Rattle.search_model.proofs.SameTermParts.{put-same, put_all-same}

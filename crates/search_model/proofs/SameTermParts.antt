@@ -3,7 +3,8 @@ use Rattle.std.proofs.Common.{◌≡◌, ℕ, suc, ◌+◌, Bool, true, false, �
 use Rattle.fpc_terms.specs.Term.{Term, Args, count, terms_in, joined, put, put_all}
 use Rattle.fpc_terms.specs.Open.{Level, at_one, later, constant, lower_in, lower_in_args}
 use Rattle.fpc_terms.specs.Equality.{Equality, same, parts, older, walk, clash, only_if, equality_of_variables, equality, is_out_of_scope, has_level, unless, walked_node}
-use Rattle.fpc_terms.proofs.SameTerms.{SameTerm, SameArgs, same_eigen, same_bound, same_variable, same_app, same_no_args, same_arg, SameList, same_nil, same_cons, SameOption, same_none, same_some, if-same}
+use Rattle.fpc_terms.specs.Same.{SameTerm, SameArgs, same_eigen, same_bound, same_variable, same_app, same_no_args, same_arg, SameList, same_nil, same_cons, SameOption, same_none, same_some}
+use Rattle.fpc_terms.proofs.SameTerms.{if-same}
 use Rattle.search_model.specs.Same.{IsOneToOne, AreRelated, related_nil, related_cons}
 
 -- the two equalities are the same but for their names, which are related

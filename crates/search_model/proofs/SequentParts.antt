@@ -16,15 +16,15 @@ use Rattle.fpc_terms.proofs.PutFacts.{put-put, put_agrees, open_put, open_more, 
 use Rattle.polarised_formulas.specs.declared.logic.Polarity.TheVariants.{Positive}
 use Rattle.polarised_formulas.specs.Formula.{Formula, truth, falsity, atom, conj, disj, implies}
 use Rattle.polarised_formulas.specs.Formula.{for_all, exists, Tied}
-use Rattle.search_model.specs.OpenFormula.{put_formula, AnyBound, IsOpenFormula, IsScopedFormula}
-use Rattle.search_model.specs.Lawful.{IsOpenAt}
+use Rattle.polarised_formulas.specs.OpenFormula.{put_formula, AnyBound, IsOpenFormula, IsScopedFormula}
+use Rattle.fpc_terms.specs.Open.{IsOpenAt}
 use Rattle.search_model.specs.StoredFormulas.{put_stored, IsOpenStored, IsScopedStored}
 use Rattle.search_model.specs.Lines.{atom_term, is_literal}
 use Rattle.search_model.specs.declared.stored.Stored.{Stored}
-use Rattle.search_model.proofs.OpenFormulaFacts.{put_same, formula_same, formula-put}
-use Rattle.search_model.proofs.OpenFormulaFacts.{formula_agrees, formula_open_put}
-use Rattle.search_model.proofs.OpenFormulaFacts.{formula_open_more, formula_scoped_put}
-use Rattle.search_model.proofs.OpenFormulaFacts.{formula_scoped_more}
+use Rattle.polarised_formulas.proofs.OpenFormulaFacts.{put_same, formula_same, formula-put}
+use Rattle.polarised_formulas.proofs.OpenFormulaFacts.{formula_agrees, formula_open_put}
+use Rattle.polarised_formulas.proofs.OpenFormulaFacts.{formula_open_more, formula_scoped_put}
+use Rattle.polarised_formulas.proofs.OpenFormulaFacts.{formula_scoped_more}
 use Rattle.std.proofs.lemmas.Option.{slice_get-map}
 use Rattle.std.proofs.lemmas.Simd.{map-map}
 use Rattle.std.specs.Option.{option_map}

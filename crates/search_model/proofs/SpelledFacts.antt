@@ -9,7 +9,8 @@ use Rattle.clause_language.proofs.LeastModelFacts.{put_atom-put_atom}
 use Rattle.clause_language.specs.declared.clause.Clause.{Clause}
 use Rattle.clause_language.specs.LeastModel.{Holds}
 use Rattle.search_model.specs.Search.{SearchCalculus, Goal, call, equate, emit, item, put_goal}
-use Rattle.search_model.specs.Lawful.{IsOpenAt, Spelled, IsGoal, AreGoals, IsLawful}
+use Rattle.fpc_terms.specs.Open.{IsOpenAt}
+use Rattle.search_model.specs.Lawful.{Spelled, IsGoal, AreGoals, IsLawful}
 
 -- later variables may be added
 pub length_more : (levels more : List Level) → length levels ≤ length (levels ++ more)

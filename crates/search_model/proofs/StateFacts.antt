@@ -7,7 +7,7 @@ use Rattle.fpc_terms.specs.Open.{Level, level_of, lower_in, lower_in_args, at_on
 use Rattle.fpc_terms.specs.Term.{Term, Args, eigen, bound, variable, app, no_args, arg, cells_before, all_before, cells_of, put}
 use Rattle.polarised_formulas.specs.declared.step.Step.{Step}
 use Rattle.search_model.specs.GoalItems.{goal_in, goal_over}
-use Rattle.search_model.specs.OpenFormula.{put_step}
+use Rattle.polarised_formulas.specs.OpenFormula.{put_step}
 use Rattle.search_model.specs.Search as search
 use Rattle.search_model.specs.States.{goal_of, goals_of, list_of, alternative_of, alternatives_of, lower_cells}
 use Rattle.search_model.specs.Table.{ItemOn, Table, calculus_of}

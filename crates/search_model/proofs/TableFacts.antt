@@ -4,13 +4,14 @@ use Rattle.fpc_terms.specs.Term.{Term, variable, put, Always, Never}
 use Rattle.fpc_terms.specs.Open.{IsOpen, Level, level_of}
 use Rattle.fpc_terms.proofs.PutFacts.{put-put, put_agrees, open_put, open_more}
 use Rattle.clause_language.specs.declared.clause.Clause.{Clause}
-use Rattle.search_model.specs.Lawful.{IsOpenAt, IsLawful}
+use Rattle.fpc_terms.specs.Open.{IsOpenAt}
+use Rattle.search_model.specs.Lawful.{IsLawful}
 use Rattle.search_model.specs.Search.{SearchCalculus}
 use Rattle.search_model.specs.Table.{ItemOn, derive, pick, init_pick, cut}
 use Rattle.search_model.specs.Table.{Table, calculus_of, AreSequents}
 use Rattle.search_model.specs.TableLaws.{AreSoundLines}
-use Rattle.search_model.proofs.OpenFormulaFacts.{put_same, step_same, step-put, step_agrees}
-use Rattle.search_model.proofs.OpenFormulaFacts.{step_open_put, step_open_more}
+use Rattle.polarised_formulas.proofs.OpenFormulaFacts.{put_same, step_same, step-put, step_agrees}
+use Rattle.polarised_formulas.proofs.OpenFormulaFacts.{step_open_put, step_open_more}
 
 module _ (T : Table) (laws : AreSequents T) where
   abbrev C : SearchCalculus

@@ -1,10 +1,10 @@
 -- What the tests read stands as the table of names grows.
 use Rattle.std.proofs.Common.{◌≡◌, ℕ, ◌<◌, ◌≤◌, List, [], ◌∷◌, length, None, Some, arith, slice_get, codes}
-use Rattle.std.proofs.lemmas.Option.{slice_get_within, slice_get-get_or}
+use Rattle.std.proofs.lemmas.Option.{slice_get_within}
 use Rattle.fpc_base.specs.Lexeme.{Item}
 use Rattle.fpc_terms.specs.Name.{AreDifferent, Grows}
-use Rattle.fpc_terms.specs.Printing.{HasNamesBelow, HaveNamesBelow}
-use Rattle.fpc_terms.specs.Term.{Term, Args, eigen, bound, variable, app, no_args, arg}
+use Rattle.fpc_terms.specs.Term.{Term}
+use Rattle.polarised_formulas.proofs.TableGrowth.{length-grown, term-named-more}
 use Rattle.clause_language.specs.declared.atom.Atom.{Atom}
 use Rattle.clause_language.specs.declared.certificate.Certificate.{Certificate}
 use Rattle.clause_language.specs.declared.definition.Definition.{Definition}
@@ -16,28 +16,9 @@ use Rattle.clause_language.specs.ReadFile.{DefinitionIsRead}
 use Rattle.clause_language.proofs.FileNames.{definition-below}
 use Rattle.clause_language.proofs.Joined.{definition-grown}
 
--- a table that grows keeps its length at least
-length-grown : (old new : List (List ℕ)) → Grows old new → length old ≤ length new
-length-grown [] new grows = omega arith
-length-grown (x ∷ xs) new grows =
-    let last : length xs < length (x ∷ xs) = omega arith in
-    let within : length xs < length new = slice_get_within new (length xs) _ (grows (length xs) _ (slice_get-get_or (x ∷ xs) (length xs) [] last)) in
-    omega (arith, within)
-
-mutual
-  term-below : (m n : ℕ) → m ≤ n → (t : Term) → HasNamesBelow m t → HasNamesBelow n t
-  term-below m n l (eigen k) h = tt
-  term-below m n l (bound k) h = tt
-  term-below m n l (variable k) h = tt
-  term-below m n l (app f ts) h = let low = h.0 in (omega (arith, low, l), args-below m n l ts h.1)
-
-  args-below : (m n : ℕ) → m ≤ n → (ts : Args) → HaveNamesBelow m ts → HaveNamesBelow n ts
-  args-below m n l no_args h = tt
-  args-below m n l (arg t ts) h = (term-below m n l t h.0, args-below m n l ts h.1)
-
 terms-below : (m n : ℕ) → m ≤ n → (ts : List Term) → AreTermsNamedBelow m ts → AreTermsNamedBelow n ts
 terms-below m n l [] h = tt
-terms-below m n l (t ∷ ts) h = (term-below m n l t h.0, terms-below m n l ts h.1)
+terms-below m n l (t ∷ ts) h = (term-named-more m n l t h.0, terms-below m n l ts h.1)
 
 -- an atom whose names stand in the table
 pub atom-grown : (old new : List (List ℕ)) → Grows old new → (a : Atom) → IsAtomNamedBelow (length old) a → IsAtomNamedBelow (length new) a

@@ -6,7 +6,7 @@ use Rattle.polarised_formulas.specs.Formula.{Formula}
 use Rattle.polarised_formulas.specs.declared.step.Step.{Step}
 use Rattle.clause_language.specs.LeastModel.{fits}
 use Rattle.clause_language.specs.declared.program.Program.{Program}
-use Rattle.search_model.specs.OpenFormula.{put_step}
+use Rattle.polarised_formulas.specs.OpenFormula.{put_step}
 use Rattle.search_model.specs.Run.{Ending, ended, spent}
 use Rattle.search_model.specs.Search.{item, Alternative, Answer, accepted, rejected, search}
 use Rattle.search_model.specs.Table.{ItemOn, derive, Table, calculus_of}

@@ -3,17 +3,12 @@ use Rattle.std.specs.Prelude.{◌≡◌, ℕ, ◌<◌, ◌≤◌, ◌-◌, true,
 use Rattle.std.specs.Prelude.{List, [], ◌∷◌, ◌++◌, map, length, Contains}
 use Rattle.std.specs.List.{All}
 use Rattle.fpc_terms.specs.Term.{Term, variable, put, Each, Never}
-use Rattle.fpc_terms.specs.Open.{IsOpen, AreOpen, Level, level_of, IsClosing, IsAtMost, later}
+use Rattle.fpc_terms.specs.Open.{IsOpen, AreOpen, IsOpenAt, Level, level_of, IsClosing, IsAtMost, later}
 use Rattle.clause_language.specs.declared.atom.Atom.{Atom}
 use Rattle.clause_language.specs.declared.clause.Clause.{Clause}
 use Rattle.clause_language.specs.LeastModel.{put_atom, Holds, fits}
 use Rattle.search_model.specs.Search.{SearchCalculus, Choice, Goal, call, equate, emit, item}
 use Rattle.search_model.specs.Search.{GoalList, put_goal}
-
--- an open term that is in scope at a level, under these levels of its variables
-abbrev pub IsOpenAt : List Level → Level → Term → Type 0
-IsOpenAt levels None t = Unit {0}
-IsOpenAt levels (Some l) t = Each (λ m. m < l) Never (λ n. IsAtMost (level_of levels n) (Some l)) t
 
 module _ (C : SearchCalculus) (clauses : List Clause) where
   -- under a closing the calls hold, the equalities are true and the items are completed; together

@@ -1,8 +1,6 @@
 pub mod Run
 pub mod Search
 pub mod Lawful
-pub mod OpenFormula
-pub mod NodePut
 pub mod StoredFormulas
 pub mod Table
 pub mod Lines

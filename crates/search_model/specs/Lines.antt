@@ -10,7 +10,7 @@ use Rattle.polarised_formulas.specs.declared.step.Step.{Step}
 use Rattle.polarised_formulas.specs.declared.step.Step.TheVariants.{Cut}
 use Rattle.clause_language.specs.declared.atom.Atom.{Atom}
 use Rattle.clause_language.specs.declared.declaration.DeclaredFormula.{DeclaredFormula}
-use Rattle.search_model.specs.OpenFormula.{put_formula}
+use Rattle.polarised_formulas.specs.OpenFormula.{put_formula}
 use Rattle.search_model.specs.Search.{call, equate, emit, item, GoalList}
 use Rattle.search_model.specs.Table.{ItemOn, derive, pick, init_pick, cut}
 use Rattle.search_model.specs.declared.stored.Stored.{Stored}

@@ -4,11 +4,11 @@ use Rattle.std.specs.Prelude.{◌≡◌, ℕ, ◌<◌, nat_eq, List, [], ◌∷�
 use Rattle.fpc_terms.specs.Open.{Level}
 use Rattle.fpc_terms.specs.Term.{Term}
 use Rattle.fpc_terms.specs.Text.{name_in}
-use Rattle.fpc_terms.proofs.SameTerms.{SameTerm, SameList}
+use Rattle.fpc_terms.specs.Same.{SameTerm, SameList}
 use Rattle.polarised_formulas.specs.Formula.{Formula}
 use Rattle.polarised_formulas.specs.declared.step.Step.{Step}
-use Rattle.polarised_formulas.proofs.SameFormulas.{SameFormula}
-use Rattle.polarised_formulas.proofs.SameSteps.{SameStep}
+use Rattle.polarised_formulas.specs.Same.{SameFormula}
+use Rattle.polarised_formulas.specs.Same.{SameStep}
 use Rattle.clause_language.specs.declared.atom.Atom.{Atom}
 use Rattle.clause_language.specs.declared.clause.Clause.{Clause}
 use Rattle.clause_language.specs.declared.declaration.DeclaredFormula.{DeclaredFormula}

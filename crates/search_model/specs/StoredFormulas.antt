@@ -2,7 +2,7 @@
 use Rattle.std.specs.Prelude.{ℕ, List}
 use Rattle.fpc_terms.specs.Open.{IsOpen, Level}
 use Rattle.fpc_terms.specs.Term.{Term, put}
-use Rattle.search_model.specs.OpenFormula.{put_formula, IsOpenFormula, IsScopedFormula}
+use Rattle.polarised_formulas.specs.OpenFormula.{put_formula, IsOpenFormula, IsScopedFormula}
 use Rattle.search_model.specs.declared.stored.Stored.{Stored}
 
 -- a stored formula with a term for each variable, in its index too

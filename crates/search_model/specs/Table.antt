@@ -6,8 +6,9 @@ use Rattle.fpc_terms.specs.Open.{IsOpen, Level, level_of}
 use Rattle.polarised_formulas.specs.Formula.{Formula, IsClosed}
 use Rattle.polarised_formulas.specs.declared.step.Step.{Step}
 use Rattle.search_model.specs.Search.{SearchCalculus, Goal, call, equate, emit, item, GoalList}
-use Rattle.search_model.specs.Lawful.{IsOpenAt, IsNatural}
-use Rattle.search_model.specs.OpenFormula.{put_step, IsOpenStep}
+use Rattle.fpc_terms.specs.Open.{IsOpenAt}
+use Rattle.search_model.specs.Lawful.{IsNatural}
+use Rattle.polarised_formulas.specs.OpenFormula.{put_step, IsOpenStep}
 
 -- The items of any calculus, over its sequents S: a sequent is derived by a certificate; a place
 -- is chosen by an index, to decide on it or to close with it; a formula is cut. The sequent of

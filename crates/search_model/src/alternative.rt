@@ -9,7 +9,6 @@ ghost use Rattle.search_model.specs.Table.{calculus_of};
 
 use crate::calculus::Calculus;
 use crate::goals::{GoalItem, SequentGoal};
-use crate::steps::{copied_step, copied_steps, step_with_term, steps_with_term};
 use clause_language::atom::Atom;
 use fpc_base::outside::OutOfMemory;
 use fpc_terms::cell::Cell;
@@ -17,6 +16,9 @@ use fpc_terms::list::Terms;
 use fpc_terms::substitution::{all_with_term, with_term};
 use fpc_terms::term::TermBuf;
 use polarised_formulas::step::Step;
+use polarised_formulas::step_substitution::{
+    copied_step, copied_steps, step_with_term, steps_with_term,
+};
 use std::alloc::Global;
 
 /// A way in which the search may go on.

@@ -12,9 +12,7 @@ pub mod lines;
 pub mod plain;
 mod search;
 pub mod solve;
-mod steps;
 pub mod stored;
-pub mod substitution;
 mod walk;
 
 pub use plain::{Outcome, Trace, plain_search};

@@ -3,13 +3,12 @@ ghost use Rattle.std.specs.Prelude.{◌≡◌, ◌∷◌, ◌<◌, ◌+◌, ◌^
 ghost use Rattle.fpc_terms.specs.Open.{later};
 ghost use Rattle.fpc_terms.specs.Term.{app, no_args, variable};
 ghost use Rattle.search_model.specs.GoalItems.{list_in};
-ghost use Rattle.search_model.specs.OpenFormula.{put_formula};
+ghost use Rattle.polarised_formulas.specs.OpenFormula.{put_formula};
 ghost use Rattle.search_model.specs.Lines.{arguments_from, at_place, bare, closed_by, closing_at};
 ghost use Rattle.search_model.specs.Lines.{cut_of, cutting, indexed, init_picked, matched, one};
 ghost use Rattle.search_model.specs.Lines.{picked, raised, sided, two, witnessed};
 
 use crate::goals::{GoalItem, Goals, SequentGoal};
-use crate::substitution::formula_with_later_variables;
 use clause_language::atom::Atom;
 use clause_language::declaration::DeclaredFormula;
 use fpc_base::outside::OutOfMemory;
@@ -19,6 +18,7 @@ use fpc_terms::name::NameId;
 use fpc_terms::term::TermBuf;
 use polarised_formulas::formula::Formula;
 use polarised_formulas::step::Step;
+use polarised_formulas::substitution::formula_with_later_variables;
 use std::alloc::Global;
 
 /// A variable as a term.

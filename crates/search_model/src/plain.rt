@@ -4,13 +4,12 @@ ghost use Rattle.fpc_terms.specs.Open.{constant};
 ghost use Rattle.polarised_formulas.specs.Formula.{IsClosed};
 ghost use Rattle.clause_language.specs.Program.{IsOpenProgram};
 ghost use Rattle.search_model.specs.Checking.{IsOutcome, IsOutcomeRight, IsOutcomeWithin};
-ghost use Rattle.search_model.specs.OpenFormula.{put_step};
+ghost use Rattle.polarised_formulas.specs.OpenFormula.{put_step};
 
 use crate::alternative::copied_term;
 use crate::calculus::Calculus;
 use crate::goals::{GoalItem, SequentGoal};
 use crate::search::{Found, few_parameters, search_goal};
-use crate::steps::step_with_constant;
 use clause_language::program::Program;
 use fpc_base::outside::OutOfMemory;
 use fpc_terms::list::Terms;
@@ -18,6 +17,7 @@ use fpc_terms::name::NameId;
 use polarised_formulas::formula::Formula;
 use polarised_formulas::step::Step;
 use polarised_formulas::step_list::StepList;
+use polarised_formulas::step_substitution::step_with_constant;
 use std::alloc::Global;
 use std::marker::Model;
 

@@ -3,11 +3,11 @@ ghost use Rattle.std.specs.Prelude.{◌≡◌, ◌++◌, ◌∷◌, [], IfOk, On
 ghost use Rattle.fpc_terms.specs.Open.{at_one};
 ghost use Rattle.search_model.specs.StoredFormulas.{put_stored};
 
-use crate::substitution::formula_with_term;
 use fpc_base::outside::OutOfMemory;
 use fpc_terms::substitution::with_term;
 use fpc_terms::term::TermBuf;
 use polarised_formulas::formula::Formula;
+use polarised_formulas::substitution::formula_with_term;
 use std::alloc::Global;
 use std::marker::Model;
 

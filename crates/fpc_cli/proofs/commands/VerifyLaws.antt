@@ -23,6 +23,7 @@ use Rattle.explicit_kernel.specs.Judgment.{Judgment, Course, course_of, judgment
 use Rattle.fpc_cli.specs.declared.answer.Answer.{Answer}
 use Rattle.fpc_cli.specs.declared.answer.Answer.TheVariants.{Accepted, Rejected, Refused, ReadFault, OutOfMemory}
 use Rattle.fpc_cli.specs.declared.answer.Role.TheVariants.{Explicit}
+use Rattle.fpc_cli.specs.Answer.{status_of}
 use Rattle.fpc_cli.specs.Grammars.{IsProblemOf}
 use Rattle.fpc_cli.specs.Held.{IsKnown, left_of}
 use Rattle.fpc_cli.specs.Laws.{IsFound}
@@ -76,8 +77,16 @@ verdict-due ReadFault course taken before now j found calm counted h = absurd (c
 verdict-due OutOfMemory course taken before now j found calm counted h = absurd found
 verdict-due _ course taken before now j found calm counted h = absurd h
 
-module _ (problem : List ℕ) (explicit : Content) (old new : Outside) (calm : Rose old.faults new.faults → ⊥) (a : Answer) (found : IsFound a)
-    (h : VerifyEnds problem explicit old new a) where
+-- so is one with status 0, whatever the count of faults
+accepted-due : (a : Answer) (course : Course) (taken : ℕ) (j : Judgment) → status_of a ≡ 0 → IsVerdict a course taken j → a ≡ answer_due j
+accepted-due (Accepted n) course taken j e h = sym (ap answer_due h)
+accepted-due (Rejected k) course taken j e h = absurd (omega (arith, e))
+accepted-due (Refused r refusal) course taken j e h = absurd (omega (arith, e))
+accepted-due ReadFault course taken j e h = absurd (omega (arith, e))
+accepted-due OutOfMemory course taken j e h = absurd (omega (arith, e))
+accepted-due _ course taken j e h = absurd h
+
+module _ (problem : List ℕ) (explicit : Content) (old new : Outside) (a : Answer) (h : VerifyEnds problem explicit old new a) where
   abbrev number : List ℕ → ℕ
   number = number_in (length h.names) h.names
 
@@ -87,28 +96,36 @@ module _ (problem : List ℕ) (explicit : Content) (old new : Outside) (calm : R
   back : GivesBack (text_in (length h.names) h.names) number
   back = GivesBack-number_in (length h.names) h.names (let l : length h.names ≤ length h.names = omega arith in l)
 
-  -- the answer is the judgment of the bytes that were taken and are left
-  own-due : a ≡ answer_due (judgment number h.goal (h.taken ++ left_of new.left))
-  own-due = verdict-due a (course_of number h.goal h.taken) (length h.taken) old.faults new.faults (judgment number h.goal (h.taken ++ left_of new.left)) found calm
-      h.counted (h.judged number agrees)
-
-  ends-due : NumbersDontMatter → VerifyIsDue explicit (problem ∷ h.taken ∷ []) a
-  ends-due numbers w bytes is holds' text other gives =
+  -- an answer that is the judgment of the bytes that were taken and are left is due
+  told-due : NumbersDontMatter → a ≡ answer_due (judgment number h.goal (h.taken ++ left_of new.left)) → VerifyIsDue explicit (problem ∷ h.taken ∷ []) a
+  told-due numbers told w bytes is holds' text other gives =
       let known : IsKnown explicit = subst IsKnown (sym holds') tt in
       let same : h.taken ++ left_of new.left ≡ bytes =
       one-content explicit (h.taken ++ left_of new.left) bytes (held-so explicit (h.taken ++ left_of new.left) known h.held) holds' in
       let formula : h.read.written.formula ≡ w =
       ap (λ (x : WrittenProblem). x.formula) (problem-read_once (items_of problem) h.read.written (record { logic = Lkf; formula = w }) h.read.reads is) in
-      own-due ∙ ap answer_due (
+      told ∙ ap answer_due (
       ap (judgment number h.goal) same
       ∙ ap (λ g. judgment number g bytes) (h.read.meant number agrees)
       ∙ numbers (text_in (length h.names) h.names) text number other back gives h.read.written.formula (begin-as-names h.names problem h.goal h.read) bytes
       ∙ ap (λ f. judgment other (formula_meant other [] [] f) bytes) formula
       )
 
+  -- so is one that was found without a fault, and one with status 0
+  ends-due : (Rose old.faults new.faults → ⊥) → IsFound a → NumbersDontMatter → VerifyIsDue explicit (problem ∷ h.taken ∷ []) a
+  ends-due calm found numbers =
+      told-due numbers
+      (verdict-due a (course_of number h.goal h.taken) (length h.taken) old.faults new.faults (judgment number h.goal (h.taken ++ left_of new.left)) found calm
+      h.counted (h.judged number agrees))
+
+  pub accepted-ends : NumbersDontMatter → status_of a ≡ 0 → VerifyIsDue explicit (problem ∷ h.taken ∷ []) a
+  accepted-ends numbers e =
+      told-due numbers
+      (accepted-due a (course_of number h.goal h.taken) (length h.taken) (judgment number h.goal (h.taken ++ left_of new.left)) e (h.judged number agrees))
+
 due-ends : NumbersDontMatter → (explicit : Content) (inputs : List (List ℕ)) (old new : Outside) → (Rose old.faults new.faults → ⊥) → (a : Answer) → IsFound a
     → EndsVerify explicit inputs old new a → VerifyIsDue explicit inputs a
-due-ends numbers explicit (problem ∷ taken ∷ []) old new calm a found h = ends-due problem explicit old new calm a found h numbers
+due-ends numbers explicit (problem ∷ taken ∷ []) old new calm a found h = ends-due problem explicit old new a h calm found numbers
 due-ends numbers explicit [] old new calm a found h = absurd h
 due-ends numbers explicit (problem ∷ []) old new calm a found h = absurd h
 due-ends numbers explicit (problem ∷ taken ∷ other ∷ more) old new calm a found h = absurd h
@@ -120,8 +137,8 @@ fits-ends numbers explicit known (problem ∷ taken ∷ []) old new calm a b fou
     let held = held-so explicit bytes known h.held in
     let is : IsProblemOf problem h.read.written.formula = read-problem problem h.names h.goal h.read in
     let n = number_in (length h.names) h.names in
-    let gives : GivesBack (text_in (length h.names) h.names) n = back problem explicit old new calm a found h in
-    ends-due problem explicit old new calm a found h numbers h.read.written.formula bytes is held (text_in (length h.names) h.names) n gives
+    let gives : GivesBack (text_in (length h.names) h.names) n = back problem explicit old new a h in
+    ends-due problem explicit old new a h calm found numbers h.read.written.formula bytes is held (text_in (length h.names) h.names) n gives
     ∙ sym (due h.read.written.formula bytes is held (text_in (length h.names) h.names) n gives)
 fits-ends numbers explicit known [] old new calm a b found h due = absurd h
 fits-ends numbers explicit known (problem ∷ []) old new calm a b found h due = absurd h

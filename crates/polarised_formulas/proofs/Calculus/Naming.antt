@@ -1,11 +1,11 @@
 -- What a calculus owes to the law that the numbers of names don't matter.
 use Rattle.std.proofs.Common.{◌≡◌, ℕ, nat_eq}
-use Rattle.fpc_terms.proofs.SameTerms.{SameList, SameOption}
+use Rattle.fpc_terms.specs.Same.{SameList, SameOption}
 use Rattle.polarised_formulas.specs.declared.step.Step.{Step}
 use Rattle.polarised_formulas.specs.Formula.{Formula}
 use Rattle.polarised_formulas.specs.Calculus.Rules.{RuleCalculus}
-use Rattle.polarised_formulas.proofs.SameFormulas.{SameFormula}
-use Rattle.polarised_formulas.proofs.SameSteps.{SameStep}
+use Rattle.polarised_formulas.specs.Same.{SameFormula}
+use Rattle.polarised_formulas.specs.Same.{SameStep}
 
 -- two values with one level are the same but for names where the values are
 pub data SameLevelled {X : Type 0} (R : X → X → Type 0) : ℕ × X → ℕ × X → Type 0 where

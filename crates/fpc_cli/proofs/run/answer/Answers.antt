@@ -16,13 +16,24 @@ returns-in-Verify-clause-caused g c =
 pub returns-in-Check-clause-caused : goal.returns-in-Check-clause-caused
 returns-in-Check-clause-caused g c =
     let before = c.args.files.now in
-    let after = c.checked.new.files in
+    let after = c.searched.new.files in
     subst
     (λ asked. IsCaused asked (g.F.Source.outside before).content
     (g.F.Source.outside before)
     (g.F.Source.outside after)
-    c.checked.result)
-    c.in-Check.ensures c.checked.ensures.caused
+    c.searched.result)
+    c.in-Check.ensures c.searched.ensures.caused
+
+pub returns-in-Elaborate-clause-caused : goal.returns-in-Elaborate-clause-caused
+returns-in-Elaborate-clause-caused g c =
+    let before = c.args.files.now in
+    let after = c.searched-in-Elaborate.new.files in
+    subst
+    (λ asked. IsCaused asked (g.F.Source.outside before).content
+    (g.F.Source.outside before)
+    (g.F.Source.outside after)
+    c.searched-in-Elaborate.result)
+    c.in-Elaborate.ensures c.searched-in-Elaborate.ensures.caused
 
 pub returns-in-Format-clause-caused : goal.returns-in-Format-clause-caused
 returns-in-Format-clause-caused g c =

@@ -1,6 +1,6 @@
 use Rattle.std.proofs.Common.{◌∙◌, map, sym, ap}
 use Rattle.fpc_terms.specs.Open.{constant}
-use Rattle.search_model.specs.OpenFormula.{put_step}
+use Rattle.polarised_formulas.specs.OpenFormula.{put_step}
 use Rattle.search_model.specs.Search.{rejected}
 use Rattle.search_model.proofs.Roots.{root-search, traced, root-within, traced-within, root_is_goal, accepted_root, rejected_root}
 use Rattle.search_model.proofs.plain.plain_search.Goals as goal

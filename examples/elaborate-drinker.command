@@ -1,0 +1,4 @@
+elaborate
+drinker.problem
+script.definition
+drinker-open.certificate

@@ -1,0 +1,4 @@
+elaborate
+lemma.problem
+script.definition
+lemma-script.certificate

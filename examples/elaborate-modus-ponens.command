@@ -1,0 +1,4 @@
+elaborate
+modus-ponens.problem
+counter.definition
+counter.certificate
