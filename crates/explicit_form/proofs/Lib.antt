@@ -20,3 +20,6 @@ pub mod SameLines
 pub mod Following
 pub mod SmallSteps
 pub mod SameTexts
+pub mod Fronts
+pub mod FrontFeeding
+pub mod PlainFeeding

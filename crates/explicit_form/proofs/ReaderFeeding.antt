@@ -25,11 +25,11 @@ use Rattle.explicit_form.specs.Feeding.{IsAt, IsTaken, step_with, done_of, pushe
 use Rattle.explicit_form.proofs.Refusals.{untold-more, untold-outcome}
 use Rattle.explicit_form.proofs.Taking.{IsAt-same, done_of-go, step_with-none}
 
-run-append : (number : List ℕ → ℕ) (logic : Logic) (st : State) (xs ys : List ℕ) → run number logic st (xs ++ ys) ≡ run number logic (run number logic st xs) ys
+pub run-append : (number : List ℕ → ℕ) (logic : Logic) (st : State) (xs ys : List ℕ) → run number logic st (xs ++ ys) ≡ run number logic (run number logic st xs) ys
 run-append number logic st [] ys = refl
 run-append number logic st (x ∷ xs) ys = run-append number logic (go number logic st x) xs ys
 
-line_length-within : (bytes : List ℕ) → line_length bytes ≤ length bytes
+pub line_length-within : (bytes : List ℕ) → line_length bytes ≤ length bytes
 line_length-within [] = omega arith
 line_length-within (b ∷ bytes) = by (nat_eq b 10) (line_length-within bytes)
   where
@@ -57,7 +57,7 @@ moves-on (b ∷ bytes) (Ok n) h l = let p = some_line b bytes in let e : n ≡ s
 moves-on bytes (Err f) h l = tt
 
 -- a piece behind another one
-AreUntold-append : (number : List ℕ → ℕ) (logic : Logic) (front more : List ℕ) (st : State) (place : ℕ) → AreUntold number logic st place front → AreUntold number logic (run number logic st front) (place + length front) more
+pub AreUntold-append : (number : List ℕ → ℕ) (logic : Logic) (front more : List ℕ) (st : State) (place : ℕ) → AreUntold number logic st place front → AreUntold number logic (run number logic st front) (place + length front) more
     → AreUntold number logic st place (front ++ more)
 AreUntold-append number logic [] more st place h k = subst (λ n. AreUntold number logic st n more) (add-zero place) k
 AreUntold-append number logic (b ∷ front) more st place h k =

@@ -38,7 +38,7 @@ going-fault place st (ended done) h = refl
 going-fault place st mistaken h = absurd h
 going-fault place st stuck h = absurd h
 
-within : (place : ℕ) (st next : State) → place < most_bytes → fault place st next ≡ byte_fault place st next
+pub within : (place : ℕ) (st next : State) → place < most_bytes → fault place st next ≡ byte_fault place st next
 within place st next l = let t : nat_le most_bytes place ≡ false = grind (arith, nat_tests) in cond-false (nat_le most_bytes place) _ _ t
 
 told-some : (c : Bool) (x y : Refusal) → (if c then Some x else Some y) ≡ None → ⊥

@@ -7,3 +7,5 @@ pub mod Sizes
 pub mod StepFeeding
 pub mod LineStanding
 pub mod Feeding
+pub mod Fronts
+pub mod LineRuns

@@ -1,6 +1,7 @@
 //! Explicit certificates as texts.
 #![tactic(auto)]
 
+mod front;
 mod line;
 pub mod print;
 mod size;

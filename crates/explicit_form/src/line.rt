@@ -1,5 +1,5 @@
 //! A line of a certificate that is read byte by byte.
-ghost use Rattle.std.specs.Prelude.{◌≡◌, ℕ, ◌∷◌, ◌++◌, [], List, Some, None, OnOk};
+ghost use Rattle.std.specs.Prelude.{◌≡◌, ℕ, ◌∷◌, ◌++◌, [], List, Some, None, IfSome, OnOk, IsTrue};
 ghost use Rattle.fpc_terms.specs.Name.{Agrees, Grows};
 ghost use Rattle.fpc_terms.specs.Adding.{AddsOnly, IsText};
 ghost use Rattle.polarised_formulas.specs.declared.logic.Logic.{Logic};
@@ -7,6 +7,8 @@ ghost use Rattle.polarised_formulas.specs.PlainReading.{Reading};
 ghost use Rattle.polarised_formulas.specs.declared.step.Step.{Step};
 ghost use Rattle.explicit_form.specs.StepReading.{Line, in_word, at_place, in_place, in_plain, next, behind_word, placed_step, bare_step, in_line, use_of, with_term, with_formula};
 ghost use Rattle.explicit_form.specs.LineStanding.{Stands, IsNext, IsPlainWord, next_unnamed, plain_start, stepped};
+ghost use Rattle.explicit_form.specs.Fronts.{IsLineBegin};
+ghost use Rattle.explicit_form.specs.LineRuns.{answer_in};
 
 use crate::word::{Placed, Word, Written, bare_step, placed_step};
 use crate::words::{begins_word, word_with};
@@ -52,7 +54,7 @@ pub(crate) struct LineReader {
     mode: Mode,
     /// The bytes of the word in progress.
     pub(crate) word: Vec<u8>,
-    plain: PlainReader,
+    pub(crate) plain: PlainReader,
 }
 
 impl LineReader {
@@ -75,6 +77,31 @@ impl LineReader {
     {
         self.word.clear();
         self.mode = Mode::InWord;
+    }
+
+    /// Whether no byte of the line was taken.
+    pub(crate) fn is_at_begin(&self) -> bool
+        ensures { IsTrue result → IsLineBegin self.now }
+    {
+        self.mode == Mode::InWord && self.word.is_empty()
+    }
+
+    /// Goes on behind a word with a place.
+    pub(crate) fn begin_place(&mut self, placed: Placed)
+        ensures { IsLineBegin self.old → Stands self.old.logic (at_place placed) self.new }
+    {
+        self.mode = Mode::AtPlace(placed);
+    }
+
+    /// The word behind which more of a term or a formula comes, if any.
+    pub(crate) fn written(&self) -> Option<Written>
+        ensures { IfSome result (λ w. self.now.mode ≡ Mode.InPlain w) }
+    {
+        let mode = self.mode;
+        match mode {
+            Mode::InPlain(written) => Some(written),
+            Mode::InWord | Mode::AtPlace(_) | Mode::InPlace(_, _) => None,
+        }
     }
 
     /// Takes the next byte of the line.
@@ -128,14 +155,16 @@ impl LineReader {
     }
 
     /// Begins the term or formula behind a word.
-    fn begin_plain(&mut self, written: Written)
+    pub(crate) fn begin_plain(&mut self, written: Written)
         ensures { self.old.word.items ≡ [] → Stands self.old.logic (in_plain written (plain_start written)) self.new }
     {
         self.mode = Mode::InPlain(written);
-        self.plain = PlainReader::new(self.alloc, self.logic);
+        let logic = self.logic;
         match written {
-            Written::Exists | Written::FocLEvery | Written::FocRExists => self.plain.begin_term(),
-            Written::Cut => {}
+            Written::Exists | Written::FocLEvery | Written::FocRExists => {
+                self.plain.begin_term(logic);
+            }
+            Written::Cut => self.plain.begin_formula(logic),
         }
     }
 
@@ -182,6 +211,21 @@ impl LineReader {
             Ok(Progress::Formula(formula)) => whole(step_with_formula(written, formula)),
             Err(refusal) => Err(refusal),
         }
+    }
+}
+
+/// What the answer of the reader of a term or a formula means in a line.
+pub(crate) fn answer_in(
+    written: Written,
+    answer: Result<Progress, TokenRefusal>,
+) -> Result<Taken, TokenRefusal>
+    ensures { result ≡ answer_in written answer }
+{
+    match answer {
+        Ok(Progress::Going) => Ok(Taken::Going),
+        Ok(Progress::Term(term)) => whole(step_with_term(written, term)),
+        Ok(Progress::Formula(formula)) => whole(step_with_formula(written, formula)),
+        Err(refusal) => Err(refusal),
     }
 }
 

@@ -1,22 +1,32 @@
 //! An explicit certificate that is read in pieces.
-ghost use Rattle.std.specs.Prelude.{◌≡◌, ℕ, ◌+◌, ◌∷◌, ◌++◌, [], List, Some, None, Ok, Err, IfOk, IsTrue, ◌↔◌, ◌<◌, ◌≤◌, length};
+ghost use Rattle.std.specs.Prelude.{◌≡◌, ℕ, ◌+◌, ◌∷◌, ◌++◌, [], List, Some, None, Ok, Err, IfOk, IsOk, OnOk, IsTrue, ◌↔◌, ◌<◌, ◌≤◌, length};
 ghost use Rattle.fpc_terms.specs.Name.{Agrees, Grows, AreDifferent};
 ghost use Rattle.fpc_terms.specs.Adding.{AddsOnly};
 ghost use Rattle.polarised_formulas.specs.Adding.{IsPartIn};
-ghost use Rattle.explicit_form.specs.LineStanding.{IsPlainWord};
+ghost use Rattle.explicit_form.specs.declared.line.Mode.TheVariants as mode;
+ghost use Rattle.explicit_form.specs.LineStanding.{IsNext, IsPlainWord};
 ghost use Rattle.polarised_formulas.specs.declared.logic.Logic.{Logic};
 ghost use Rattle.polarised_formulas.specs.declared.step.Step.{Step};
-ghost use Rattle.explicit_form.specs.StepReading.{Line, State, heading, reading, start, next, next_heading, settle, go, run};
+ghost use Rattle.explicit_form.specs.StepReading.{Line, Next, State, heading, reading, start, next, next_heading, settle, go, run};
 ghost use Rattle.explicit_form.specs.StepLimits.{byte_fault, fault};
+ghost use Rattle.explicit_form.specs.declared.word.Word.TheVariants as word;
+ghost use Rattle.explicit_form.specs.StepText.{word_text};
+ghost use Rattle.explicit_form.specs.Fronts.{HasFront, IsBegin, IsSize, IsWordAt, size};
 ghost use Rattle.explicit_form.specs.Feeding.{IsAt, IsTaken, IsLine, IsLineWord, StandsBehind, HasRead, IsFed, IsFinished, is_whole, line_in, line_length, step_of, step_with};
 
-use crate::line::{LineReader, Taken, push};
+use crate::front::{Front, line_length, place_at, word_at};
+use crate::line::{LineReader, Taken, answer_in, push};
+use crate::word::{Placed, Word, Written, bare_step, placed_step};
 use crate::words::{header_line, other_header};
 use fpc_base::refusal::{Code, Refusal, TokenRefusal};
 use fpc_terms::names::Names;
+use polarised_formulas::PlainRun;
 use polarised_formulas::logic::Logic;
 use polarised_formulas::step::Step;
 use std::alloc::Global;
+
+/// How many bytes a certificate may have.
+const MOST_BYTES: usize = 67_108_864;
 
 /// Why a certificate isn't read.
 #[derive(Clone, Copy, PartialEq, Eq, Debug)]
@@ -141,6 +151,182 @@ impl StepReader {
         ensures none { (fault : StepFault) → result ≡ Err fault → self.new.step ≡ None }
     {
         self.step = None;
+        let front = self.take_front(bytes);
+        match front {
+            Front::Line(n) => Ok(n),
+            Front::Inside(n) => {
+                let (_, rest) = bytes.split_at(n);
+                match self.feed_rest(names, rest) {
+                    Ok(more) => Ok(n + more),
+                    Err(fault) => Err(fault),
+                }
+            }
+        }
+    }
+
+    /// Takes what is seen of a line at once.
+    fn take_front(&mut self, bytes: &[u8]) -> Front
+        requires { self.old.step ≡ None }
+        ensures taken { (number : List ℕ → ℕ) (logic : Logic) (st : State) → IsAt logic st self.old
+            → HasFront number logic st self.old.at bytes.now result self.new }
+        ensures size { IsSize bytes.now result }
+        ensures none { (n : ℕ) → result ≡ Front.Inside n → self.new.step ≡ None }
+        ensures place { self.new.at ≡ self.old.at + size result }
+    {
+        if !self.is_at_begin() {
+            return Front::Inside(0);
+        }
+        if !self.has_room(bytes) {
+            return Front::Inside(0);
+        }
+        match word_at(self.line.logic, bytes) {
+            Some((word, n)) => self.take_word(word, n, bytes),
+            None => Front::Inside(0),
+        }
+    }
+
+    /// Whether no byte of a line was taken.
+    fn is_at_begin(&self) -> bool
+        requires { self.now.step ≡ None }
+        ensures { IsTrue result → IsBegin self.now }
+    {
+        self.phase == Phase::Lines && self.line.is_at_begin()
+    }
+
+    /// Takes a word of so many bytes that the bytes begin with, and a place behind it that ends in them.
+    fn take_word(&mut self, word: Word, n: usize, bytes: &[u8]) -> Front
+        requires begin { IsBegin self.old }
+        requires word { IsWordAt self.old.line.logic bytes.now word }
+        requires length { n ≡ length (word_text word) }
+        requires room { self.old.at + length bytes.now ≤ 67108864 }
+        ensures taken { (number : List ℕ → ℕ) (logic : Logic) (st : State) → IsAt logic st self.old
+            → HasFront number logic st self.old.at bytes.now result self.new }
+        ensures size { IsSize bytes.now result }
+        ensures none { (n : ℕ) → result ≡ Front.Inside n → self.new.step ≡ None }
+        ensures place { self.new.at ≡ self.old.at + size result }
+    {
+        match word {
+            Word::Bare(bare) => {
+                self.at += n;
+                self.step = Some(bare_step(bare));
+                Front::Line(n)
+            }
+            Word::Placed(placed) => self.take_place(placed, n, bytes),
+            Word::Written(written) => {
+                self.at += n;
+                self.line.begin_plain(written);
+                Front::Inside(n)
+            }
+            Word::End => {
+                self.at += n;
+                self.phase = Phase::Ended;
+                Front::Line(n)
+            }
+        }
+    }
+
+    /// Takes a word of so many bytes and, if it ends in the bytes, the place behind it.
+    fn take_place(&mut self, placed: Placed, n: usize, bytes: &[u8]) -> Front
+        requires begin { IsBegin self.old }
+        requires word { IsWordAt self.old.line.logic bytes.now (word.Placed placed) }
+        requires length { n ≡ length (word_text (word.Placed placed)) }
+        requires room { self.old.at + length bytes.now ≤ 67108864 }
+        ensures taken { (number : List ℕ → ℕ) (logic : Logic) (st : State) → IsAt logic st self.old
+            → HasFront number logic st self.old.at bytes.now result self.new }
+        ensures size { IsSize bytes.now result }
+        ensures none { (n : ℕ) → result ≡ Front.Inside n → self.new.step ≡ None }
+        ensures place { self.new.at ≡ self.old.at + size result }
+    {
+        let (_, rest) = bytes.split_at(n);
+        match place_at(rest) {
+            Some((place, more)) => {
+                self.at += n + more;
+                self.step = Some(placed_step(placed, u64::from(place)));
+                Front::Line(n + more)
+            }
+            None => {
+                self.at += n;
+                self.line.begin_place(placed);
+                Front::Inside(n)
+            }
+        }
+    }
+
+    /// Takes bytes behind those that were taken at once.
+    fn feed_rest(&mut self, names: &mut Names, bytes: &[u8]) -> Result<usize, StepFault>
+        requires none { self.old.step ≡ None }
+        ensures grows { Grows names.old names.new }
+        ensures only { (logic : Logic) (before : List ℕ) → AreDifferent names.new → StandsBehind logic names.old before self.old → AddsOnly (IsPartIn before (line_in bytes.now)) names.old names.new }
+        ensures line { (number : List ℕ → ℕ) (logic : Logic) (st : State) → Agrees number names.new → IsAt logic st self.old
+            → IsLine number logic st self.old.at bytes.now result self.new }
+        ensures count { IfOk result (λ n. n ≡ line_length bytes.now) }
+        ensures within { IfOk result (λ n. n ≤ length bytes.now) }
+        ensures place { IfOk result (λ n. self.new.at ≡ self.old.at + n) }
+        ensures stays { (fault : StepFault) → result ≡ Err fault → self.new.phase ≡ Phase.Faulty fault }
+        ensures none { (fault : StepFault) → result ≡ Err fault → self.new.step ≡ None }
+    {
+        if self.phase == Phase::Lines && self.has_room(bytes) {
+            if let Some(written) = self.line.written() {
+                return self.feed_plain(names, written, bytes);
+            }
+        }
+        self.feed_bytes(names, bytes)
+    }
+
+    /// Whether all the bytes lie below the limit.
+    fn has_room(&self, bytes: &[u8]) -> bool
+        ensures { IsTrue result → self.now.at + length bytes.now ≤ 67108864 }
+    {
+        bytes.len() <= MOST_BYTES && self.at <= MOST_BYTES - bytes.len()
+    }
+
+    /// Takes bytes of a term or a formula.
+    fn feed_plain(
+        &mut self,
+        names: &mut Names,
+        written: Written,
+        bytes: &[u8],
+    ) -> Result<usize, StepFault>
+        requires none { self.old.step ≡ None }
+        requires phase { self.old.phase ≡ Phase.Lines }
+        requires mode { self.old.line.mode ≡ mode.InPlain written }
+        requires room { self.old.at + length bytes.now ≤ 67108864 }
+        ensures grows { Grows names.old names.new }
+        ensures only { (logic : Logic) (before : List ℕ) → AreDifferent names.new → StandsBehind logic names.old before self.old → AddsOnly (IsPartIn before (line_in bytes.now)) names.old names.new }
+        ensures line { (number : List ℕ → ℕ) (logic : Logic) (st : State) → Agrees number names.new → IsAt logic st self.old
+            → IsLine number logic st self.old.at bytes.now result self.new }
+        ensures count { IfOk result (λ n. n ≡ line_length bytes.now) }
+        ensures within { IfOk result (λ n. n ≤ length bytes.now) }
+        ensures place { IfOk result (λ n. self.new.at ≡ self.old.at + n) }
+        ensures stays { (fault : StepFault) → result ≡ Err fault → self.new.phase ≡ Phase.Faulty fault }
+        ensures none { (fault : StepFault) → result ≡ Err fault → self.new.step ≡ None }
+    {
+        let n = line_length(bytes);
+        let (line, _) = bytes.split_at(n);
+        let PlainRun { passed, last } = self.line.plain.bytes(names, line);
+        let answer = answer_in(written, last);
+        match self.take_answer(answer, self.at + passed) {
+            Ok(()) => {
+                self.at += n;
+                Ok(n)
+            }
+            Err(fault) => Err(fault),
+        }
+    }
+
+    /// Takes bytes one by one.
+    fn feed_bytes(&mut self, names: &mut Names, bytes: &[u8]) -> Result<usize, StepFault>
+        ensures grows { Grows names.old names.new }
+        ensures only { (logic : Logic) (before : List ℕ) → AreDifferent names.new → StandsBehind logic names.old before self.old → AddsOnly (IsPartIn before (line_in bytes.now)) names.old names.new }
+        ensures line { (number : List ℕ → ℕ) (logic : Logic) (st : State) → Agrees number names.new → IsAt logic st self.old
+            → IsLine number logic st self.old.at bytes.now result self.new }
+        ensures count { IfOk result (λ n. n ≡ line_length bytes.now) }
+        ensures within { IfOk result (λ n. n ≤ length bytes.now) }
+        ensures place { IfOk result (λ n. self.new.at ≡ self.old.at + n) }
+        ensures stays { (fault : StepFault) → result ≡ Err fault → self.new.phase ≡ Phase.Faulty fault }
+        ensures none { (fault : StepFault) → result ≡ Err fault → self.new.step ≡ None }
+    {
+        self.step = None;
         for (i, b) in bytes.iter().enumerate() {
             match self.byte(names, *b) {
                 Ok(()) => {}
@@ -165,7 +351,7 @@ impl StepReader {
     {
         self.step = None;
         let at = self.at;
-        if at >= 67_108_864 {
+        if at >= MOST_BYTES {
             return Err(self.refuse(Code::TooLarge, at));
         }
         match self.next_byte(names, b) {
@@ -237,7 +423,24 @@ impl StepReader {
         ensures stays { (fault : StepFault) → result ≡ Err fault → self.new.phase ≡ Phase.Faulty fault }
         ensures none { (fault : StepFault) → result ≡ Err fault → self.new.step ≡ None }
     {
-        match self.line.byte(names, b) {
+        let answer = self.line.byte(names, b);
+        self.take_answer(answer, self.at)
+    }
+
+    /// Takes what the reader of a line answers to the byte at a place.
+    fn take_answer(
+        &mut self,
+        answer: Result<Taken, TokenRefusal>,
+        at: usize,
+    ) -> Result<(), StepFault>
+        ensures taken { (logic : Logic) (done : List Step) (l : Line) (n : Next) → self.old.phase ≡ Phase.Lines → self.old.step ≡ None → IsNext logic l answer self.old.line n
+            → IsTaken logic (byte_fault at (reading done l) (settle done n)) (settle done n) (step_of n) result self.new }
+        ensures ok { OnOk result (IsOk answer) }
+        ensures place { self.new.at ≡ self.old.at }
+        ensures stays { (fault : StepFault) → result ≡ Err fault → self.new.phase ≡ Phase.Faulty fault }
+        ensures none { (fault : StepFault) → result ≡ Err fault → self.new.step ≡ None }
+    {
+        match answer {
             Ok(Taken::Going) => Ok(()),
             Ok(Taken::Whole(step)) => {
                 self.line.begin();
@@ -248,7 +451,7 @@ impl StepReader {
                 self.phase = Phase::Ended;
                 Ok(())
             }
-            Err(TokenRefusal::Refused(code)) => Err(self.refuse(code, self.at)),
+            Err(TokenRefusal::Refused(code)) => Err(self.refuse(code, at)),
             Err(TokenRefusal::OutOfMemory) => Err(self.fail(StepFault::OutOfMemory)),
         }
     }

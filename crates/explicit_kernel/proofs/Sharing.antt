@@ -1,7 +1,14 @@
--- Sequents that share their formulas: what is put on top or cut back leaves those behind as they were.
-use Rattle.std.proofs.Common.{◌≡◌, ℕ, suc, ◌≤◌, List, [], ◌∷◌, ◌++◌, length, take, refl, sym, ap, subst, ◌∙◌, arith, Result, Ok, Err, OnOk, OnErr}
-use Rattle.std.proofs.lemmas.List.{take-append-le, take-take, length-take, length-append}
+-- Sequents still to be derived that share their formulas: what is put on top or cut back leaves those behind as they were.
+use Rattle.std.proofs.Common.{◌≡◌, ℕ, suc, ◌≤◌, List, [], ◌∷◌, ◌++◌, length, map, take, drop, refl, sym, ap, subst, ◌∙◌, arith, Result, Ok, Err, OnOk, OnErr}
+use Rattle.std.specs.Prelude.{zero}
+use Rattle.std.specs.List.{AllByRecursion}
+use Rattle.std.proofs.lemmas.List.{take-append-le, take-take, length-take, length-append, take-append-drop}
+use Rattle.fpc_terms.specs.Term.{Term, Each, Always, Never}
 use Rattle.polarised_formulas.specs.Formula.{Formula}
+use Rattle.polarised_formulas.specs.Held.{AreUnbound}
+use Rattle.polarised_formulas.specs.Grows.{stands-grown}
+use Rattle.polarised_formulas.proofs.Elements.{AllByRecursion-weaker, AllByRecursion-append}
+use Rattle.lkf_rules.specs.Sequent.{Levelled}
 use Rattle.lkf_rules.specs.declared.rules.effect.Effect.{Effect}
 use Rattle.lkf_rules.specs.Effect.{premises_by}
 use Rattle.explicit_kernel.specs.declared.shared.Cell.{Cell}
@@ -10,7 +17,7 @@ use Rattle.explicit_kernel.specs.declared.shared.Task.TheVariants.{Work, Focus}
 use Rattle.explicit_kernel.specs.declared.shared.Open.{Open}
 use Rattle.explicit_kernel.specs.declared.shared.Shared.{Shared}
 use Rattle.explicit_kernel.specs.Stack.{StandsAt, IsLowest}
-use Rattle.explicit_kernel.specs.Shared.{chain, GoDown, sequent_of, sequents_of, IsBelow, AreBelow, IsReady, IsSound, Grows, premises_at}
+use Rattle.explicit_kernel.specs.Shared.{Held, meant, IsServed, AreServed, IsServedTask, AreServedAll, IsPlace, chain, GoDown, sequent_of, sequents_of, IsBelow, AreBelow, IsReady, IsSound, Grows, HasTerms, IsTaken, pending_of, premises_at}
 
 -- a cell on top is not in a list that begins below it
 pub chain-under : (c : Cell) (cs : List Cell) (n : ℕ) → n ≤ length cs → chain (c ∷ cs) n ≡ chain cs n
@@ -46,24 +53,41 @@ abbrev pub Agree : ℕ → List Cell → List Cell → Type 0
 Agree n cs ds = (k : ℕ) → k ≤ n → chain cs k ≡ chain ds k
 
 -- the stored formulas agree as far as the n-th
-abbrev pub Alike : ℕ → List Formula → List Formula → Type 0
+abbrev pub Alike : ℕ → List Held → List Held → Type 0
 Alike n s t = (k : ℕ) → k ≤ n → take k s ≡ take k t
 
-sequent_of-same : (s t : List Formula) (cs ds : List Cell) (n : ℕ) (task : Task) → s ≡ t → IsBelow n task → Agree n cs ds → sequent_of s cs task ≡ sequent_of t ds task
-sequent_of-same s t cs ds n (Work k) e h agree = rw (e, agree k h) refl
-sequent_of-same s t cs ds n (Focus f) e h agree = rw e refl
+module _ (ts : List Term) where
+  sequent_of-same : (s t : List Held) (cs ds : List Cell) (n : ℕ) (task : Task) → s ≡ t → IsBelow n task → Agree n cs ds → sequent_of ts s cs task ≡ sequent_of ts t ds task
+  sequent_of-same s t cs ds n (Work k) e h agree = rw (e, agree k h) refl
+  sequent_of-same s t cs ds n (Focus f) e h agree = rw e refl
 
--- sequents stay as they were where the cells and the stored formulas that they need do
-pub sequents-same : (s t : List Formula) (cs ds : List Cell) (n k : ℕ) (os : List Open) → AreBelow n k os → Agree n cs ds → Alike k s t → sequents_of s cs os ≡ sequents_of t ds os
-sequents-same s t cs ds n k [] h agree alike = refl
-sequents-same s t cs ds n k (o ∷ os) h agree alike =
+  -- sequents stay as they were where the cells and the stored formulas that they need do
+  pub sequents-same : (s t : List Held) (cs ds : List Cell) (n k : ℕ) (os : List Open) → AreBelow n k os → Agree n cs ds → Alike k s t → sequents_of ts s cs os ≡ sequents_of ts t ds os
+  sequents-same s t cs ds n k [] h agree alike = refl
+  sequents-same s t cs ds n k (o ∷ os) h agree alike =
+      let stored : o.stored ≤ k = h.0 in
+      let floor : o.floor ≤ n = h.1 in
+      let first : sequent_of ts (take o.stored s) cs o.task ≡ sequent_of ts (take o.stored t) ds o.task =
+      sequent_of-same (take o.stored s) (take o.stored t) cs ds n o.task (alike o.stored stored) h.2 agree in
+      let others : sequents_of ts s cs os ≡ sequents_of ts t ds os =
+      sequents-same s t cs ds o.floor o.stored os h.3 (λ i below. agree i (omega (arith, below, floor))) (λ i below. alike i (omega (arith, below, stored))) in
+      rw (first, others) refl
+
+-- and so do the terms that serve them
+served_task-same : (m : ℕ) (cs ds : List Cell) (n : ℕ) (task : Task) → IsBelow n task → Agree n cs ds → IsServedTask m cs task → IsServedTask m ds task
+served_task-same m cs ds n (Work k) h agree z = subst (AreServed m) (agree k h) z
+served_task-same m cs ds n (Focus f) h agree z = z
+
+pub served-same : (m : ℕ) (s t : List Held) (cs ds : List Cell) (n k : ℕ) (os : List Open) → AreBelow n k os → Agree n cs ds → Alike k s t → AreServedAll m s cs os → AreServedAll m t ds os
+served-same m s t cs ds n k [] h agree alike z = tt
+served-same m s t cs ds n k (o ∷ os) h agree alike z =
     let stored : o.stored ≤ k = h.0 in
-    let floor : o.floor ≤ n = h.1 in
-    let first : sequent_of (take o.stored s) cs o.task ≡ sequent_of (take o.stored t) ds o.task =
-    sequent_of-same (take o.stored s) (take o.stored t) cs ds n o.task (alike o.stored stored) h.2 agree in
-    let others : sequents_of s cs os ≡ sequents_of t ds os =
-    sequents-same s t cs ds o.floor o.stored os h.3 (λ i below. agree i (omega (arith, below, floor))) (λ i below. alike i (omega (arith, below, stored))) in
-    rw (first, others) refl
+    let floor : o.floor ≤ n = h.1 in (
+      z.0,
+      subst (AreServed o.terms) (alike o.stored stored) z.1,
+      served_task-same o.terms cs ds n o.task h.2 agree z.2,
+      served-same o.terms s t cs ds o.floor o.stored os h.3 (λ i below. agree i (omega (arith, below, floor))) (λ i below. alike i (omega (arith, below, stored))) z.3,
+    )
 
 IsBelow-more : (n m : ℕ) (task : Task) → n ≤ m → IsBelow n task → IsBelow m task
 IsBelow-more n m (Work k) e h = omega (arith, e, h)
@@ -73,6 +97,60 @@ pub AreBelow-more : (n m k l : ℕ) (os : List Open) → n ≤ m → k ≤ l →
 AreBelow-more n m k l [] e f h = tt
 AreBelow-more n m k l (o ∷ os) e f h = let stored : o.stored ≤ k = h.0 in let floor : o.floor ≤ n = h.1 in
     (omega (arith, stored, f), omega (arith, floor, e), IsBelow-more n m o.task e h.2, h.3)
+
+-- more terms serve too
+pub AreServed-more : (n m : ℕ) (hs : List Held) → n ≤ m → AreServed n hs → AreServed m hs
+AreServed-more n m hs e h = AllByRecursion-weaker (IsServed n) (IsServed m) (λ x z. omega (arith, e, z)) hs h
+
+pub served_task-more : (n m : ℕ) (cs : List Cell) (task : Task) → n ≤ m → IsServedTask n cs task → IsServedTask m cs task
+served_task-more n m cs (Work k) e h = AreServed-more n m (chain cs k) e h
+served_task-more n m cs (Focus f) e h = omega (arith, e, h)
+
+pub served_all-more : (n m : ℕ) (s : List Held) (cs : List Cell) (os : List Open) → n ≤ m → AreServedAll n s cs os → AreServedAll m s cs os
+served_all-more n m s cs [] e h = tt
+served_all-more n m s cs (o ∷ os) e h = let terms : o.terms ≤ n = h.0 in (omega (arith, e, terms), h.1, h.2, h.3)
+
+-- terms behind those that serve change nothing
+module _ (ts us : List Term) where
+  pub meant-grown : (h : Held) → IsServed (length ts) h → meant (ts ++ us) h ≡ meant ts h
+  meant-grown h z = stands-grown ts us h z
+
+  pub all_meant-grown : (hs : List Held) → AreServed (length ts) hs → map (meant (ts ++ us)) hs ≡ map (meant ts) hs
+  all_meant-grown [] z = refl
+  all_meant-grown (h ∷ hs) z = rw (meant-grown h z.0, all_meant-grown hs z.1)
+
+  pub sequent-grown : (s : List Held) (cs : List Cell) (task : Task) → AreServed (length ts) s → IsServedTask (length ts) cs task → sequent_of (ts ++ us) s cs task ≡ sequent_of ts s cs task
+  sequent-grown s cs (Work k) h z = rw (all_meant-grown s h, all_meant-grown (chain cs k) z) refl
+  sequent-grown s cs (Focus f) h z = rw (all_meant-grown s h, meant-grown f z) refl
+
+  pub sequents-grown : (n : ℕ) (s : List Held) (cs : List Cell) (os : List Open) → n ≤ length ts → AreServedAll n s cs os → sequents_of (ts ++ us) s cs os ≡ sequents_of ts s cs os
+  sequents-grown n s cs [] e h = refl
+  sequents-grown n s cs (o ∷ os) e h =
+      let terms : o.terms ≤ n = h.0 in
+      let within : o.terms ≤ length ts = omega (arith, terms, e) in
+      rw (
+        sequent-grown (take o.stored s) cs o.task (AreServed-more o.terms (length ts) (take o.stored s) within h.1) (served_task-more o.terms (length ts) cs o.task within h.2),
+        sequents-grown o.terms s cs os within h.3,
+      ) refl
+
+-- nor do those that are cut off
+length-cut : (n : ℕ) (ts : List Term) → n ≤ length ts → length (take n ts) ≡ n
+length-cut n ts h = omega (arith, h, length-take n ts)
+
+pub sequent-cut : (ts : List Term) (n : ℕ) (s : List Held) (cs : List Cell) (task : Task) → n ≤ length ts → AreServed n s → IsServedTask n cs task → sequent_of (take n ts) s cs task ≡ sequent_of ts s cs task
+sequent-cut ts n s cs task e h z =
+    let long : length (take n ts) ≡ n = length-cut n ts e in
+    sym (sequent-grown (take n ts) (drop n ts) s cs task (subst (λ i. AreServed i s) (sym long) h) (subst (λ i. IsServedTask i cs task) (sym long) z))
+    ∙ ap (λ i. sequent_of i s cs task) (take-append-drop n ts)
+
+pub sequents-cut : (ts : List Term) (n : ℕ) (s : List Held) (cs : List Cell) (os : List Open) → n ≤ length ts → AreServedAll n s cs os → sequents_of (take n ts) s cs os ≡ sequents_of ts s cs os
+sequents-cut ts n s cs os e h =
+    sym (sequents-grown (take n ts) (drop n ts) n s cs os (omega (arith, length-cut n ts e)) h) ∙ ap (λ i. sequents_of i s cs os) (take-append-drop n ts)
+
+AreUnbound-take : (n : ℕ) (ts : List Term) → AreUnbound ts → AreUnbound (take n ts)
+AreUnbound-take zero ts h = tt
+AreUnbound-take (suc n) [] h = tt
+AreUnbound-take (suc n) (t ∷ ts) h = (h.0, AreUnbound-take n ts h.1)
 
 pub chain-stands : (cs : List Cell) (k : ℕ) (c : Cell) → GoDown cs → StandsAt cs k c → chain cs (suc k) ≡ c.formula ∷ chain cs c.next
 chain-stands cs k c low (front, back, is, behind) =
@@ -86,33 +164,59 @@ next-below cs k c low (front, back, is, behind) =
     let next : c.next ≤ length back = here.0 in
     omega (arith, next, length-append front (c ∷ back), ap length is)
 
+-- what a task that works on a list goes on with
+first-served : (n : ℕ) (cs : List Cell) (i k : ℕ) (c : Cell) (task : Task) → task ≡ Work i → i ≡ suc k → GoDown cs → StandsAt cs k c → IsServedTask n cs task → AreServed n (c.formula ∷ chain cs c.next)
+first-served n cs i k c task is z low stands h =
+    subst (AreServed n) (chain-stands cs k c low stands) (subst (λ j. AreServed n (chain cs j)) z (subst (IsServedTask n cs) is h))
+
+pub next-place : (x : Shared) (i k : ℕ) (c : Cell) (task : Task) → task ≡ Work i → i ≡ suc k → GoDown x.cells → StandsAt x.cells k c → IsServedTask (length x.terms.items) x.cells task → IsPlace x c.next
+next-place x i k c task is z low stands h = (next-below x.cells k c low stands, (first-served (length x.terms.items) x.cells i k c task is z low stands h).1)
+
+pub first-formula : (x : Shared) (i k : ℕ) (c : Cell) (task : Task) → task ≡ Work i → i ≡ suc k → GoDown x.cells → StandsAt x.cells k c → IsServedTask (length x.terms.items) x.cells task → IsServed (length x.terms.items) c.formula
+first-formula x i k c task is z low stands h = (first-served (length x.terms.items) x.cells i k c task is z low stands h).0
+
+pub no-place : (x : Shared) → IsPlace x 0
+no-place x = (omega arith, subst (AreServed (length x.terms.items)) (sym (chain-end x.cells)) tt)
+
 -- what a step goes on with behind the first worked formula: nothing where there is none
-pub rest-focus : (s : List Formula) (cs : List Cell) (e : Effect) (n : ℕ) (task : Task) (f : Formula) → task ≡ Focus f → premises_at e (n, sequent_of s cs task) ≡ premises_by e n s (chain cs 0)
-rest-focus s cs e n task f is = rw (is, chain-end cs) refl
+module _ (ts : List Term) (s : List Held) (cs : List Cell) (e : Effect Held) (n : ℕ) (task : Task) where
+  pub rest-focus : (h : Held) → task ≡ Focus h → premises_at ts e (n, sequent_of ts s cs task) ≡ premises_by (meant ts) e n (map (meant ts) s) (map (meant ts) (chain cs 0))
+  rest-focus h is = rw (is, chain-end cs) refl
 
-pub rest-nothing : (s : List Formula) (cs : List Cell) (e : Effect) (n : ℕ) (task : Task) (k : ℕ) → task ≡ Work k → k ≡ 0 → premises_at e (n, sequent_of s cs task) ≡ premises_by e n s (chain cs 0)
-rest-nothing s cs e n task k is z = rw (is, z, chain-end cs) refl
+  pub rest-nothing : (i : ℕ) → task ≡ Work i → i ≡ 0 → premises_at ts e (n, sequent_of ts s cs task) ≡ premises_by (meant ts) e n (map (meant ts) s) (map (meant ts) (chain cs 0))
+  rest-nothing i is z = rw (is, z, chain-end cs) refl
 
-pub rest-first : (s : List Formula) (cs : List Cell) (e : Effect) (n : ℕ) (task : Task) (i k : ℕ) (c : Cell) → task ≡ Work i → i ≡ suc k → GoDown cs → StandsAt cs k c →
-    premises_at e (n, sequent_of s cs task) ≡ premises_by e n s (chain cs c.next)
-rest-first s cs e n task i k c is z low stands = rw (is, z, chain-stands cs k c low stands) refl
+  pub rest-first : (i k : ℕ) (c : Cell) → task ≡ Work i → i ≡ suc k → GoDown cs → StandsAt cs k c
+      → premises_at ts e (n, sequent_of ts s cs task) ≡ premises_by (meant ts) e n (map (meant ts) s) (map (meant ts) (chain cs c.next))
+  rest-first i k c is z low stands = rw (is, z, chain-stands cs k c low stands) refl
 
 -- one more stored formula
-Alike-more : (s : List Formula) (f : Formula) → Alike (length s) (s ++ f ∷ []) s
-Alike-more s f k h = take-append-le k s (f ∷ []) h
+Alike-more : (s : List Held) (h : Held) → Alike (length s) s (s ++ h ∷ [])
+Alike-more s h k z = sym (take-append-le k s (h ∷ []) z)
 
-pub stored-below : (n : ℕ) (s t : List Formula) (f : Formula) (os : List Open) → t ≡ s ++ f ∷ [] → AreBelow n (length s) os → AreBelow n (length t) os
-stored-below n s t f os e h = AreBelow-more n n (length s) (length t) os (omega arith) (omega (arith, ap length e, length-append s (f ∷ []))) h
+pub stored-ready : (n : ℕ) (x : Shared) (t : List Held) (y : Shared) (h : Held) → t ≡ x.stored.items ++ h ∷ [] → IsServed (length x.terms.items) h
+    → y.stored.items ≡ t → y.cells ≡ x.cells → y.sequents ≡ x.sequents → y.terms.items ≡ x.terms.items → IsReady n x → IsReady n y
+stored-ready n x t y h e z a b c d ready =
+    let is : y.stored.items ≡ x.stored.items ++ h ∷ [] = a ∙ e in
+    record {
+      below = rw (c, is) (AreBelow-more n n (length x.stored.items) (length (x.stored.items ++ h ∷ [])) x.sequents (omega arith) (omega (arith, length-append x.stored.items (h ∷ []))) ready.below);
+      floor = rw b ready.floor;
+      down = rw b ready.down;
+      served = rw (b, c, d, is)
+          (served-same (length x.terms.items) x.stored.items (x.stored.items ++ h ∷ []) x.cells x.cells n (length x.stored.items) x.sequents ready.below (λ k below. refl) (Alike-more x.stored.items h) ready.served);
+      stored_served = rw (d, is) (AllByRecursion-append (IsServed (length x.terms.items)) x.stored.items (h ∷ []) ready.stored_served (z, tt));
+      unbound = rw d ready.unbound;
+    }
 
-pub stored-same : (n : ℕ) (s t : List Formula) (f : Formula) (cs : List Cell) (os : List Open) → t ≡ s ++ f ∷ [] → AreBelow n (length s) os → sequents_of t cs os ≡ sequents_of s cs os
-stored-same n s t f cs os e h = rw e (sequents-same (s ++ f ∷ []) s cs cs n (length s) os h (λ k below. refl) (Alike-more s f))
+pub stored-same : (ts : List Term) (n : ℕ) (s t : List Held) (h : Held) (cs : List Cell) (os : List Open) → t ≡ s ++ h ∷ [] → AreBelow n (length s) os → sequents_of ts t cs os ≡ sequents_of ts s cs os
+stored-same ts n s t h cs os e z = rw e (sym (sequents-same ts s (s ++ h ∷ []) cs cs n (length s) os z (λ k below. refl) (Alike-more s h)))
 
 -- cut back to a recorded length, the lists of the sequents are as they were
-chain-lowest : (cs ds : List Cell) (m n : ℕ) → n ≤ m → IsLowest cs m ds → chain ds n ≡ chain cs n
-chain-lowest cs ds m n h (front, is, long) = rw is (sym (chain-append front ds n (omega (arith, h, long))))
+chain-lowest : (cs ds : List Cell) (m n : ℕ) → n ≤ m → IsLowest cs m ds → chain cs n ≡ chain ds n
+chain-lowest cs ds m n h (front, is, long) = rw is (chain-append front ds n (omega (arith, h, long)))
 
 pub cut-chain : (cs ds : List Cell) (m n : ℕ) → n ≤ m → IsLowest cs m ds → chain ds n ≡ chain cs n
-cut-chain cs ds m n h low = chain-lowest cs ds m n h low
+cut-chain cs ds m n h low = sym (chain-lowest cs ds m n h low)
 
 GoDown-lowest : (cs ds : List Cell) (m : ℕ) → GoDown cs → IsLowest cs m ds → GoDown ds
 GoDown-lowest cs ds m h (front, is, long) = GoDown-append front ds (subst GoDown is h)
@@ -120,20 +224,104 @@ GoDown-lowest cs ds m h (front, is, long) = GoDown-append front ds (subst GoDown
 length-lowest : (cs ds : List Cell) (m : ℕ) → IsLowest cs m ds → length ds ≡ m
 length-lowest cs ds m (front, is, long) = long
 
-pub cut-ready : (n k m : ℕ) (s : List Formula) (x : Shared) (cs : List Cell) → AreBelow n k x.sequents → k ≤ length s → n ≤ m → x.stored.items ≡ take k s → GoDown cs → IsLowest cs m x.cells → IsReady n x
-cut-ready n k m s x cs below short low e h lowest = record {
-  below = AreBelow-more n n k (length x.stored.items) x.sequents (omega arith) (omega (arith, short, ap length e, length-take k s)) below;
+pub cut-ready : (n m : ℕ) (x : Shared) (cs : List Cell) → n ≤ m → GoDown cs → IsLowest cs m x.cells → AreBelow n (length x.stored.items) x.sequents
+    → AreServedAll (length x.terms.items) x.stored.items cs x.sequents → AreServed (length x.terms.items) x.stored.items → AreUnbound x.terms.items → IsReady n x
+cut-ready n m x cs low h lowest below served stored unbound = record {
+  below = below;
   floor = omega (arith, low, length-lowest cs x.cells m lowest);
   down = GoDown-lowest cs x.cells m h lowest;
+  served = served-same (length x.terms.items) x.stored.items x.stored.items cs x.cells n (length x.stored.items) x.sequents below
+      (λ i z. chain-lowest cs x.cells m i (omega (arith, z, low)) lowest) (λ i z. refl) served;
+  stored_served = stored;
+  unbound = unbound;
 }
 
-pub cut-same : (n k m : ℕ) (s t : List Formula) (cs ds : List Cell) (os : List Open) → AreBelow n k os → n ≤ m → t ≡ take k s → IsLowest cs m ds → sequents_of t ds os ≡ sequents_of s cs os
-cut-same n k m s t cs ds os below low e lowest =
-    rw e (sequents-same (take k s) s ds cs n k os below (λ i h. chain-lowest cs ds m i (omega (arith, h, low)) lowest) (λ i h. take-take i k s h))
+pub cut-same : (ts : List Term) (n k m : ℕ) (s : List Held) (cs ds : List Cell) (os : List Open) → AreBelow n k os → n ≤ m → IsLowest cs m ds → sequents_of ts s ds os ≡ sequents_of ts s cs os
+cut-same ts n k m s cs ds os below low lowest =
+    sym (sequents-same ts s s cs ds n k os below (λ i h. chain-lowest cs ds m i (omega (arith, h, low)) lowest) (λ i h. refl))
 
 -- no more cells are left than are needed
 pub cut-dropped : (floor rest m : ℕ) (cs ds : List Cell) → ((n : ℕ) → floor ≤ n → rest ≤ n → m ≤ n) → IsLowest cs m ds → (n : ℕ) → floor ≤ n → rest ≤ n → length ds ≤ n
 cut-dropped floor rest m cs ds one lowest n low below = let long = length-lowest cs ds m lowest in let most = one n low below in omega (arith, long, most)
+
+pub cut-place : (m rest : ℕ) (x : Shared) (cs : List Cell) → rest ≤ m → IsLowest cs m x.cells → AreServed (length x.terms.items) (chain cs rest) → IsPlace x rest
+cut-place m rest x cs below lowest served =
+    (omega (arith, below, length-lowest cs x.cells m lowest), subst (AreServed (length x.terms.items)) (chain-lowest cs x.cells m rest below lowest) served)
+
+-- the stored formulas and the terms of a sequent that was taken off the others
+Alike-take : (k : ℕ) (s : List Held) → Alike k s (take k s)
+Alike-take k s i h = sym (take-take i k s h)
+
+pub forget-ready : (o : Open) (x : Shared) (y : Shared) → IsTaken o x → y.stored.items ≡ take o.stored x.stored.items → y.terms.items ≡ take o.terms x.terms.items
+    → y.cells ≡ x.cells → y.sequents ≡ x.sequents → IsReady o.floor y
+forget-ready o x y h a b c d =
+    let long : length y.terms.items ≡ o.terms = ap length b ∙ length-cut o.terms x.terms.items h.terms in
+    let short : length y.stored.items ≡ o.stored = ap length a ∙ (let z = h.stored in omega (arith, z, length-take o.stored x.stored.items)) in
+    record {
+      below = rw (d, short) h.below;
+      floor = rw c h.floor;
+      down = rw c h.down;
+      served = rw (long, a, c, d)
+          (served-same o.terms x.stored.items (take o.stored x.stored.items) x.cells x.cells o.floor o.stored x.sequents h.below (λ i z. refl) (Alike-take o.stored x.stored.items) h.served);
+      stored_served = rw (long, a) h.own_stored;
+      unbound = rw b (AreUnbound-take o.terms x.terms.items h.unbound);
+    }
+
+pub forget-task : (o : Open) (x : Shared) (ts : List Term) → IsTaken o x → ts ≡ take o.terms x.terms.items → IsServedTask (length ts) x.cells o.task
+forget-task o x ts h e = subst (λ i. IsServedTask i x.cells o.task) (sym (ap length e ∙ length-cut o.terms x.terms.items h.terms)) h.own_task
+
+pub forget-same : (o : Open) (x : Shared) (s : List Held) (ts : List Term) → IsTaken o x → s ≡ take o.stored x.stored.items → ts ≡ take o.terms x.terms.items
+    → sequent_of ts s x.cells o.task ≡ sequent_of x.terms.items (take o.stored x.stored.items) x.cells o.task
+forget-same o x s ts h a b = rw (a, b) (sequent-cut x.terms.items o.terms (take o.stored x.stored.items) x.cells o.task h.terms h.own_stored h.own_task)
+
+pub forget-pending : (o : Open) (x : Shared) (s : List Held) (ts : List Term) → IsTaken o x → s ≡ take o.stored x.stored.items → ts ≡ take o.terms x.terms.items
+    → sequents_of ts s x.cells x.sequents ≡ pending_of x
+forget-pending o x s ts h a b = rw (a, b)
+    (sym (sequents-same (take o.terms x.terms.items) x.stored.items (take o.stored x.stored.items) x.cells x.cells o.floor o.stored x.sequents h.below (λ i z. refl) (Alike-take o.stored x.stored.items))
+    ∙ sequents-cut x.terms.items o.terms x.stored.items x.cells x.sequents h.terms h.served)
+
+-- a sequent that is taken off sound ones
+pub taken-off : (o : Open) (os : List Open) (x y : Shared) → x.sequents ≡ o ∷ os → y.sequents ≡ os → y.stored ≡ x.stored → y.terms ≡ x.terms → y.cells ≡ x.cells → IsSound x → IsTaken o y
+taken-off o os x y e a b c d sound =
+    let below : AreBelow (length x.cells) (length x.stored.items) (o ∷ os) = subst (AreBelow (length x.cells) (length x.stored.items)) e sound.below in
+    let served : AreServedAll (length x.terms.items) x.stored.items x.cells (o ∷ os) = subst (AreServedAll (length x.terms.items) x.stored.items x.cells) e sound.served in
+    record {
+      stored = rw b below.0;
+      terms = rw c served.0;
+      floor = rw d below.1;
+      task = rw d below.2;
+      below = rw a below.3;
+      own_stored = rw b served.1;
+      own_task = rw d served.2;
+      served = rw (a, b, d) served.3;
+      down = rw d sound.down;
+      unbound = rw c sound.unbound;
+    }
+
+-- more terms leave all as it was
+pub terms-ready : (n : ℕ) (x y : Shared) → HasTerms x y → IsReady n x → IsReady n y
+terms-ready n x y h ready =
+    let more : length x.terms.items ≤ length y.terms.items = omega (arith, ap length h.terms, length-append x.terms.items h.more) in
+    record {
+      below = rw (h.stored, h.sequents) ready.below;
+      floor = rw h.cells ready.floor;
+      down = rw h.cells ready.down;
+      served = rw (h.stored, h.cells, h.sequents) (served_all-more (length x.terms.items) (length y.terms.items) x.stored.items x.cells x.sequents more ready.served);
+      stored_served = rw h.stored (AreServed-more (length x.terms.items) (length y.terms.items) x.stored.items more ready.stored_served);
+      unbound = rw h.terms (AllByRecursion-append (Each Always Never Always) x.terms.items h.more ready.unbound h.unbound);
+    }
+
+pub terms-pending : (x y : Shared) → HasTerms x y → AreServedAll (length x.terms.items) x.stored.items x.cells x.sequents → pending_of y ≡ pending_of x
+terms-pending x y h served = rw (h.stored, h.cells, h.sequents, h.terms) (sequents-grown x.terms.items h.more (length x.terms.items) x.stored.items x.cells x.sequents (omega arith) served)
+
+pub terms-place : (x y : Shared) (n : ℕ) → HasTerms x y → IsPlace x n → IsPlace y n
+terms-place x y n h place =
+    let more : length x.terms.items ≤ length y.terms.items = omega (arith, ap length h.terms, length-append x.terms.items h.more) in
+    rw h.cells (place.0, AreServed-more (length x.terms.items) (length y.terms.items) (chain x.cells n) more place.1)
+
+pub terms-sequent : (x y : Shared) (task : Task) → HasTerms x y → AreServed (length x.terms.items) x.stored.items → IsServedTask (length x.terms.items) x.cells task
+    → sequent_of y.terms.items y.stored.items y.cells task ≡ sequent_of x.terms.items x.stored.items x.cells task
+terms-sequent x y task h stored served = rw (h.stored, h.cells, h.terms) (sequent-grown x.terms.items h.more x.stored.items x.cells task stored served)
 
 -- where the sequents need no more than a floor, all is sound
 pub ready-sound : (n : ℕ) (x : Shared) → IsReady n x → IsSound x
@@ -141,29 +329,57 @@ ready-sound n x h = record {
   below = AreBelow-more n (length x.cells) (length x.stored.items) (length x.stored.items) x.sequents h.floor (omega arith) h.below;
   floor = omega arith;
   down = h.down;
+  served = h.served;
+  stored_served = h.stored_served;
+  unbound = h.unbound;
 }
+
+take-whole : (s : List Held) → take (length s) s ≡ s
+take-whole [] = refl
+take-whole (h ∷ hs) = ap (λ x. h ∷ x) (take-whole hs)
 
 -- one more sequent, or the same ones
-pub task-sound : {A E : Type 0} (r : Result A E) (n level k : ℕ) (task : Task) (x : Shared) (os : List Open) → IsReady n x → IsBelow (length x.cells) task → k ≡ length x.stored.items →
-    OnOk r (os ≡ record { level = level; stored = k; floor = n; task = task } ∷ x.sequents) → OnErr r (os ≡ x.sequents) →
-    IsReady (length x.cells) record { stored = x.stored; cells = x.cells; sequents = os }
-task-sound (Ok a) n level k task x os h t z ok err = record {
-  below = subst (AreBelow (length x.cells) (length x.stored.items)) (sym ok) (omega (arith, z), h.floor, t, subst (λ i. AreBelow n i x.sequents) (sym z) h.below);
+pub task-sound : {A E : Type 0} (r : Result A E) (n level k m : ℕ) (task : Task) (x y : Shared) → IsReady n x → IsBelow (length x.cells) task → IsServedTask (length x.terms.items) x.cells task
+    → k ≡ length x.stored.items → m ≡ length x.terms.items → y.stored ≡ x.stored → y.terms ≡ x.terms → y.cells ≡ x.cells
+    → OnOk r (y.sequents ≡ record { level = level; stored = k; terms = m; floor = n; task = task } ∷ x.sequents) → OnErr r (y.sequents ≡ x.sequents) → IsSound y
+task-sound (Ok a) n level k m task x y h t served z w e f g ok err = record {
+  below = rw (e, g, ok) (omega (arith, z), h.floor, t, subst (λ i. AreBelow n i x.sequents) (sym z) h.below);
   floor = omega arith;
-  down = h.down;
+  down = rw g h.down;
+  served = rw (e, f, g, ok) (omega (arith, w), rw (w, z, take-whole x.stored.items) h.stored_served, rw w served, rw w h.served);
+  stored_served = rw (e, f) h.stored_served;
+  unbound = rw f h.unbound;
 }
-task-sound (Err e) n level k task x os h t z ok err =
-    subst (λ i. IsReady (length x.cells) record { stored = x.stored; cells = x.cells; sequents = i }) (sym err) (ready-sound n x h)
+task-sound (Err b) n level k m task x y h t served z w e f g ok err =
+    let sound : IsSound x = ready-sound n x h in
+    record {
+      below = rw (e, g, err) sound.below;
+      floor = omega arith;
+      down = rw g h.down;
+      served = rw (e, f, g, err) h.served;
+      stored_served = rw (e, f) h.stored_served;
+      unbound = rw f h.unbound;
+    }
 
 -- one more cell
-Agree-more : (c : Cell) (cs : List Cell) → Agree (length cs) (c ∷ cs) cs
-Agree-more c cs k h = chain-under c cs k h
+Agree-more : (c : Cell) (cs : List Cell) → Agree (length cs) cs (c ∷ cs)
+Agree-more c cs k h = sym (chain-under c cs k h)
 
-pub cell-grows : (c : Cell) (x : Shared) (ds : List Cell) → c.next ≤ length x.cells → ds ≡ c ∷ x.cells → IsSound x → Grows x record { stored = x.stored; cells = ds; sequents = x.sequents }
-cell-grows c x ds h e sound = subst (λ i. Grows x record { stored = x.stored; cells = i; sequents = x.sequents }) (sym e) record {
-  stored = refl;
-  pending = sequents-same x.stored.items x.stored.items (c ∷ x.cells) x.cells (length x.cells) (length x.stored.items) x.sequents sound.below (Agree-more c x.cells) (λ k below. refl);
-  longer = omega arith;
-  ready = λ n ready. record { below = ready.below; floor = omega (arith, ready.floor); down = (h, ready.down) };
-  chains = Agree-more c x.cells;
+pub cell-grows : (c : Cell) (x y : Shared) → c.next ≤ length x.cells → y.cells ≡ c ∷ x.cells → y.stored ≡ x.stored → y.terms ≡ x.terms → y.sequents ≡ x.sequents → IsSound x → Grows x y
+cell-grows c x y h e a b d sound = record {
+  stored = a;
+  terms = b;
+  pending = rw (a, b, d, e)
+      (sym (sequents-same x.terms.items x.stored.items x.stored.items x.cells (c ∷ x.cells) (length x.cells) (length x.stored.items) x.sequents sound.below (Agree-more c x.cells) (λ k below. refl)));
+  longer = rw e (omega arith);
+  ready = λ n ready. record {
+    below = rw (a, d) ready.below;
+    floor = let low = ready.floor in rw e (omega (arith, low));
+    down = rw e (h, ready.down);
+    served = rw (a, b, d, e)
+        (served-same (length x.terms.items) x.stored.items x.stored.items x.cells (c ∷ x.cells) (length x.cells) (length x.stored.items) x.sequents sound.below (Agree-more c x.cells) (λ k below. refl) ready.served);
+    stored_served = rw (a, b) ready.stored_served;
+    unbound = rw b ready.unbound;
+  };
+  chains = λ n below. rw e (chain-under c x.cells n below);
 }

@@ -3,7 +3,7 @@ ghost use Rattle.std.specs.Prelude.{◌≡◌, ℕ, ◌+◌, ◌<◌, ◌≤◌,
 ghost use Rattle.fpc_terms.specs.Name.{AreDifferent, Grows};
 ghost use Rattle.fpc_terms.specs.Adding.{AddsOnly};
 ghost use Rattle.polarised_formulas.specs.Adding.{IsPartIn};
-ghost use Rattle.polarised_formulas.specs.Formula.{Formula};
+ghost use Rattle.polarised_formulas.specs.Formula.{Formula, IsClosed as IsClosedGoal};
 ghost use Rattle.polarised_formulas.specs.declared.logic.Logic.{Logic};
 ghost use Rattle.polarised_formulas.specs.Calculus.Lawful.{AreLow};
 ghost use Rattle.explicit_form.specs.Feeding.{HasRead};
@@ -40,6 +40,7 @@ pub(crate) struct Check<P> {
 impl<P: Pending> Check<P> {
     /// No byte is taken yet.
     pub(crate) fn start(alloc: Global, goal: &Formula) -> Result<Check<P>, OutOfMemory>
+        requires { IsClosedGoal goal.now }
         ensures come { (names : List (List ℕ))
             → IfOk result (λ c. HasCome P.calculus names goal.now [] c.reader
             (P.sequents_of c.play.pending) c.play.fitted) }

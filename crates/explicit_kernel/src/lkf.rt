@@ -55,13 +55,7 @@ impl Pending for LkfPending {
         self.shared.is_empty()
     }
 
-    fn play(&mut self, alloc: Global, step: &Step) -> Result<(), StepRefusal> {
-        match self.shared.effect(alloc, step) {
-            Ok(effect) => match self.shared.replace_first(effect) {
-                Ok(()) => Ok(()),
-                Err(_) => Err(StepRefusal::OutOfMemory),
-            },
-            Err(refusal) => Err(refusal),
-        }
+    fn play(&mut self, alloc: Global, step: Step) -> Result<(), StepRefusal> {
+        self.shared.play(alloc, step)
     }
 }

@@ -1,6 +1,7 @@
 //! The sequents still to be derived, in any calculus.
 ghost use Rattle.std.specs.Prelude.{◌≡◌, ◌≢◌, ◌↔◌, ◌<◌, ◌-◌, ◌^◌, [], List, IsTrue, OnOk, IfOk, Err};
 ghost use Rattle.std.specs.List.{AllByRecursion};
+ghost use Rattle.polarised_formulas.specs.Formula.{IsClosed};
 ghost use Rattle.polarised_formulas.specs.Calculus.Rules.{RuleCalculus, LevelledIn};
 ghost use Rattle.polarised_formulas.specs.Calculus.Lawful.{IsLawful};
 ghost use Rattle.polarised_formulas.specs.Calculus.Play.{PlaysOne, start_of};
@@ -26,6 +27,7 @@ pub(crate) trait Pending: Drop {
 
     /// The goal's root sequent alone. Time and memory are linear in the goal's size.
     fn start(alloc: Global, goal: &Formula) -> Result<Self, OutOfMemory>
+        requires { IsClosed goal.now }
         ensures { IfOk result (λ p. sequents_of p ≡ start_of calculus goal.now) };
 
     /// Is nothing left to derive?
@@ -35,18 +37,18 @@ pub(crate) trait Pending: Drop {
     /// Replaces the next sequent by the premises of the rule instance that the step names, which
     /// stand before the others. Where no sequent is left, or the step names no instance at the next
     /// one, it does not fit; a `cut` may run out of memory before that is known. Time and memory
-    /// are linear in the sizes of the formula that the step works on and of the step, but for what
-    /// is dropped.
-    fn play(&mut self, alloc: Global, step: &Step) -> Result<(), StepRefusal>
+    /// are linear in the step's size, but for the opening of a quantifier, the arguments that are
+    /// compared and what is dropped.
+    fn play(&mut self, alloc: Global, step: Step) -> Result<(), StepRefusal>
         requires levels { AllByRecursion (λ p. p.0 < 2 ^ 64 - 1) (sequents_of self.old) }
         ensures fits { OnOk result
-            (PlaysOne calculus (sequents_of self.old) step.now (sequents_of self.new)) }
+            (PlaysOne calculus (sequents_of self.old) step (sequents_of self.new)) }
         ensures unfit { result ≡ Err StepRefusal.DoesNotFit ↔
             ((r : List (LevelledIn calculus))
-            → PlaysOne calculus (sequents_of self.old) step.now r → ⊥)
+            → PlaysOne calculus (sequents_of self.old) step r → ⊥)
             × (result ≢ Err StepRefusal.OutOfMemory) }
         ensures memory { result ≡ Err StepRefusal.OutOfMemory
-            → MayRunOutAt calculus step.now (sequents_of self.old) };
+            → MayRunOutAt calculus step (sequents_of self.old) };
 
     ghost lawful: { IsLawful calculus };
 }

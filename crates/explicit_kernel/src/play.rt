@@ -1,5 +1,6 @@
 //! The steps of a certificate as they come, played against a goal.
 ghost use Rattle.std.specs.Prelude.{◌≡◌, ◌↔◌, List, ◌+◌, ◌-◌, ◌^◌, ◌<◌, ◌≤◌, ◌≢◌, [], OnOk, OnErr, IfOk, Err};
+ghost use Rattle.polarised_formulas.specs.Formula.{IsClosed};
 ghost use Rattle.polarised_formulas.specs.Calculus.Rules.{LevelledIn};
 ghost use Rattle.polarised_formulas.specs.Calculus.Lawful.{AreLow};
 ghost use Rattle.polarised_formulas.specs.Calculus.Play.{PlaysOne, start_of};
@@ -24,6 +25,7 @@ pub(crate) struct Play<P> {
 impl<P: Pending> Play<P> {
     /// Nothing is played yet.
     pub(crate) fn start(alloc: Global, goal: &Formula) -> Result<Play<P>, OutOfMemory>
+        requires { IsClosed goal.now }
         ensures pending { IfOk result
             (λ p. P.sequents_of p.pending ≡ start_of P.calculus goal.now) }
         ensures fitted { IfOk result (λ p. p.fitted ≡ 0) }
@@ -39,13 +41,13 @@ impl<P: Pending> Play<P> {
     pub(crate) fn advance<L: Ledger>(
         &mut self,
         alloc: Global,
-        step: &Step,
+        step: Step,
         steps: &mut Steps<L>,
     ) -> Result<(), StepRefusal>
         requires low { AreLow P.calculus self.old.fitted (P.sequents_of self.old.pending) }
         requires few { self.old.fitted < 2 ^ 32 }
         ensures fits { OnOk result
-            (PlaysOne P.calculus (P.sequents_of self.old.pending) step.now
+            (PlaysOne P.calculus (P.sequents_of self.old.pending) step
             (P.sequents_of self.new.pending)) }
         ensures low { OnOk result
             (AreLow P.calculus self.new.fitted (P.sequents_of self.new.pending)) }
@@ -53,10 +55,10 @@ impl<P: Pending> Play<P> {
         ensures ticks { OnOk result (steps.new ≡ steps.old + 1) }
         ensures unfit { result ≡ Err StepRefusal.DoesNotFit ↔
             ((r : List (LevelledIn P.calculus))
-            → PlaysOne P.calculus (P.sequents_of self.old.pending) step.now r → ⊥)
+            → PlaysOne P.calculus (P.sequents_of self.old.pending) step r → ⊥)
             × (result ≢ Err StepRefusal.OutOfMemory) }
         ensures memory { result ≡ Err StepRefusal.OutOfMemory
-            → MayRunOutAt P.calculus step.now (P.sequents_of self.old.pending) }
+            → MayRunOutAt P.calculus step (P.sequents_of self.old.pending) }
         ensures none { OnErr result (self.new.fitted ≡ self.old.fitted) }
         ensures no_tick { OnErr result (steps.new ≡ steps.old) }
     {
@@ -93,7 +95,7 @@ impl<P: Pending> Play<P> {
         ensures ticks { steps.new + self.old.fitted ≡ steps.old + self.new.fitted }
     {
         match step {
-            Some(step) => self.advance(alloc, &step, steps),
+            Some(step) => self.advance(alloc, step, steps),
             None => Ok(()),
         }
     }

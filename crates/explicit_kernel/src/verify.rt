@@ -61,6 +61,7 @@ fn verify_through<P: Pending, S: Source, L: Ledger>(
     buffer: &mut [u8],
     steps: &mut Steps<L>,
 ) -> Result<Verdict, VerifyRefusal>
+    requires closed { IsClosed goal.now }
     requires buffer { length buffer.old ≡ PIECE }
     ensures judged { IsJudgedIn P.calculus names.new goal.now
         (S.outside source.old).left (S.outside source.new).left steps.old steps.new result }
@@ -102,8 +103,10 @@ fn verify_through<P: Pending, S: Source, L: Ledger>(
 /// each step replaces the next sequent by the premises of the rule that it names. Each step that
 /// fits is one tick. A step is judged when its line end is read, so of a refusal and a rejection
 /// the one that lies first is reported. At most 65,536 bytes are taken after the byte at which an
-/// answer lies. Time is linear in the bytes and in the sizes of the formulas that the steps work
-/// on; memory is that of the sequents still to be derived, of one line and of the names.
+/// answer lies. Time is linear in the bytes of the certificate and in the size of the goal, but for
+/// the look-ups of names and of what quantifiers bind, which are logarithmic, and for `init`, which
+/// takes time linear in the two literals. Memory is that of the goal, of the sequents still to be
+/// derived, of the terms and cut formulas that they name, of one line and of the names.
 pub fn verify<S: Source, L: Ledger>(
     alloc: Global,
     names: &mut Names,

@@ -5,7 +5,7 @@ use Rattle.std.proofs.Math.Seq.{take-append_seam, drop-append_seam, get_or-appen
 use Rattle.fpc_terms.specs.declared.cell.Cell.{Cell}
 use Rattle.fpc_terms.specs.declared.cell.Cell.TheVariants.{App}
 use Rattle.fpc_terms.specs.Term.{Term, Args, eigen, bound, variable, app, no_args, arg, count, cells_before, all_before, cells_of, terms_from, terms_from-cells_before, term_of, term_of-cells_of, IsOneTerm}
-use Rattle.fpc_terms.specs.Partial.{Frame, frame, Partial, args_onto, arguments_of, with_term, opened, closed, innermost, only_term, done_cells, flat, positions, turned, terms_of, frame_of, base_of, frames_of, partial_of, Is, IsPartial, IsBefore, StandsAt}
+use Rattle.fpc_terms.specs.Partial.{Frame, frame, Partial, args_onto, arguments_of, with_term, opened, closed, innermost, only_term, done_cells, flat, positions, turned, terms_of, frame_of, base_of, frames_of, partial_of, Is, IsPartial, IsCount, IsBefore, StandsAt}
 
 mutual
   pub cells_before-append : (t : Term) (xs ys : List Cell) → cells_before t xs ++ ys ≡ cells_before t (xs ++ ys)
@@ -98,14 +98,11 @@ module _ (cs : List Cell) (is : List ℕ) (n : ℕ) (base : List Term) (fs : Lis
   IsPartial-from_Is = rw (base_of-from_Is, frames_of-from_Is) h
 
 -- the application at a place has one more argument
-pub raised : (cs : List Cell) (i : ℕ) (c : Cell) (g m : ℕ) (front back : List Cell) (f n : ℕ) → c ≡ slice_index_or cs i c → c ≡ App g m → StandsAt cs i front f n back →
-    slice_set cs i (App g (m + 1)) ≡ front ++ App f (n + 1) ∷ back
-raised cs i c g m front back f n e at (items, place) =
-    let found : slice_index_or cs i c ≡ App f n = rw (items, place) (get_or-append_seam front (App f n) back c) in
-    let same : App g m ≡ App f n = sym at ∙ e ∙ found in
-    let name : g ≡ f = cc in
-    let number : m ≡ n = cc in
-    rw (items, place, name, number) (set-append_seam front (App f n) back (App f (n + 1)))
+pub raised : (cs : List Cell) (i : ℕ) (old new : Cell) (front back : List Cell) (f n : ℕ) → old ≡ slice_index_or cs i old → (old ≡ App f n → new ≡ App f (n + 1)) → StandsAt cs i front f n back →
+    slice_set cs i new ≡ front ++ App f (n + 1) ∷ back
+raised cs i old new front back f n e becomes (items, place) =
+    let found : slice_index_or cs i old ≡ App f n = rw (items, place) (get_or-append_seam front (App f n) back old) in
+    rw (items, place, becomes (e ∙ found)) (set-append_seam front (App f n) back (App f (n + 1)))
 
 -- the innermost open application stands at the first of the places
 pub StandsAt-first : (cs more : List Cell) (i : ℕ) (is rest : List ℕ) (base : List Term) (f : Frame) (fs : List Frame) → cs ≡ flat base (f ∷ fs) more → is ≡ positions base (f ∷ fs) → is ≡ i ∷ rest →
@@ -198,3 +195,15 @@ value-from_IsPartial cs is n z h = partial_of-from_Is cs is n z.base z.frames h
 
 pub invariant-from_IsPartial : (cs : List Cell) (is : List ℕ) (n : ℕ) (z : Partial) → IsPartial cs is n z → IsPartial cs is n (partial_of cs is)
 invariant-from_IsPartial cs is n z h = IsPartial-from_Is cs is n z.base z.frames h
+
+-- one more whole term stands innermost
+pub innermost-with_term : (t : Term) (base : List Term) (fs : List Frame) → innermost (with_term t base fs).base (with_term t base fs).frames ≡ innermost base fs + 1
+innermost-with_term t base [] = omega arith
+innermost-with_term t base (f ∷ fs) = omega arith
+
+-- what is known of the count of the fields' value
+pub IsCount-at : (cs : List Cell) (is : List ℕ) (m : ℕ) (z : Partial) → IsCount m (partial_of cs is) → partial_of cs is ≡ z → IsCount m z
+IsCount-at cs is m z h e = subst (λ (w : Partial). IsCount m w) e h
+
+pub IsCount-from : (cs : List Cell) (is : List ℕ) (n m : ℕ) (z : Partial) → IsPartial cs is n z → IsCount m z → IsCount m (partial_of cs is)
+IsCount-from cs is n m z h e = subst (λ (w : Partial). IsCount m w) (sym (value-from_IsPartial cs is n z h)) e

@@ -1,6 +1,6 @@
 -- Terms that are the same but for the numbers of their names.
-use Rattle.std.proofs.Common.{◌≡◌, ℕ, zero, suc, Bool, true, false, if◌then◌else◌, ◌&&◌, nat_eq, List, [], ◌∷◌, ◌++◌, length, Option, Some, None, slice_get, refl, ap, ap₂}
-use Rattle.fpc_terms.specs.Term.{Term, Args, eigen, bound, variable, app, no_args, arg, same_term, same_args, open_term, open_args}
+use Rattle.std.proofs.Common.{◌≡◌, ℕ, zero, suc, Bool, true, false, if◌then◌else◌, ◌&&◌, nat_eq, List, ◌++◌, length, slice_get, refl, ap, ap₂}
+use Rattle.fpc_terms.specs.Term.{Term, Args, same_term, same_args, open_term, open_args}
 use Rattle.fpc_terms.specs.Same.{SameTerm, SameArgs, same_eigen, same_bound, same_variable, same_app, same_no_args, same_arg}
 use Rattle.fpc_terms.specs.Same.{SameList, SameOption, same_nil, same_cons, same_none, same_some}
 

@@ -1,5 +1,5 @@
 -- Terms that are the same by their names have the same text, each by its own table; and terms with names in a table are the same as themselves.
-use Rattle.std.proofs.Common.{◌≡◌, ℕ, ◌<◌, List, [], ◌∷◌, ◌++◌, ap, ap₂}
+use Rattle.std.proofs.Common.{◌≡◌, ℕ, ◌<◌, List, ◌∷◌, ◌++◌, ap, ap₂}
 use Rattle.std.specs.Fmt.{decimal}
 use Rattle.fpc_terms.specs.Term.{Term, Args, eigen, bound, variable, app, no_args, arg}
 use Rattle.fpc_terms.specs.Text.{plain_leaves, term_before, args_before, more_before}

@@ -60,6 +60,10 @@ abbrev pub innermost : List Term → List Frame → ℕ
 innermost base [] = length base
 innermost base (f ∷ fs) = length f.args
 
+-- the number is how many whole terms stand innermost
+abbrev pub IsCount : ℕ → Partial → Type 0
+IsCount n z = n ≡ innermost z.base z.frames
+
 -- the one whole term, where nothing else stands
 abbrev pub only_term : List Term → List Frame → Option Term
 only_term (t ∷ []) [] = Some t

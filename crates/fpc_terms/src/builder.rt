@@ -3,7 +3,7 @@ ghost use Rattle.std.specs.Prelude.{◌≡◌, ℕ, ◌<◌, ◌+◌, ◌++◌, 
 ghost use Rattle.fpc_terms.specs.Term.{Term, eigen, bound, variable, app, no_args, count, cells_of, all_before, cells_before};
 ghost use Rattle.fpc_terms.specs.declared.cell.Cell.{Cell};
 ghost use Rattle.fpc_terms.specs.declared.cell.Cell.TheVariants.{App};
-ghost use Rattle.fpc_terms.specs.Partial.{Frame, Partial, arguments_of, nothing, with_term, opened, closed, innermost, only_term, flat, leaf_term, IsBefore, IsPartial, StandsAt};
+ghost use Rattle.fpc_terms.specs.Partial.{Frame, Partial, arguments_of, nothing, with_term, opened, closed, innermost, only_term, flat, leaf_term, Is, IsBefore, IsPartial, StandsAt};
 
 use crate::cell::Cell;
 use crate::name::NameId;
@@ -82,17 +82,33 @@ fn arguments_at(cells: &[Cell], at: usize) -> u8
     0
 }
 
+/// How many whole terms stand innermost.
+fn innermost(cells: &[Cell], places: &Places, whole: u8) -> u8
+    ensures { (base : List Term) (fs : List Frame) → Is cells.now places.now whole base fs → result ≡ innermost base fs }
+{
+    match places.top() {
+        Some(at) => arguments_at(cells, at),
+        None => whole,
+    }
+}
+
+/// Gives an application one more argument.
+fn raise_cell(cell: &mut Cell)
+    ensures { (f n : ℕ) → n < 255 → cell.old ≡ App f n → cell.new ≡ App f (n + 1) }
+{
+    if let Cell::App(_, arguments) = cell {
+        if *arguments < 255 {
+            *arguments += 1;
+        }
+    }
+}
+
 /// Gives the application at a place one more argument.
 fn raise(cells: &mut Vec<Cell>, at: usize)
     ensures { (front back : List Cell) (f n : ℕ) → n < 255 → StandsAt cells.old.items at front f n back → cells.new.items ≡ front ++ App f (n + 1) ∷ back }
 {
     if at < cells.len() {
-        let cell = cells[at];
-        if let Cell::App(name, arguments) = cell {
-            if arguments < 255 {
-                cells[at] = Cell::App(name, arguments + 1);
-            }
-        }
+        raise_cell(&mut cells[at]);
     }
 }
 
@@ -117,10 +133,12 @@ pub struct TermBuilder {
     places: Places,
     /// How many whole terms stand in no application.
     whole: u8,
+    /// How many whole terms stand innermost: in the innermost application, or in none.
+    innermost: u8,
 }
 
 impl Model for TermBuilder {
-    ghost use Rattle.fpc_terms.specs.Partial.{Partial, partial_code, partial_of, IsPartial};
+    ghost use Rattle.fpc_terms.specs.Partial.{Partial, partial_code, partial_of, IsPartial, IsCount};
 
     ghost Value = { Partial };
 
@@ -128,7 +146,8 @@ impl Model for TermBuilder {
 
     ghost view = { λ b. partial_of b.cells.items b.places };
 
-    ghost invariant = { λ b. IsPartial b.cells.items b.places b.whole (partial_of b.cells.items b.places) };
+    ghost invariant = { λ b. IsPartial b.cells.items b.places b.whole (partial_of b.cells.items b.places)
+        × IsCount b.innermost (partial_of b.cells.items b.places) };
 }
 
 impl TermBuilder {
@@ -140,6 +159,7 @@ impl TermBuilder {
             cells: Vec::new(alloc),
             places: Places::new(alloc),
             whole: 0,
+            innermost: 0,
         }
     }
 
@@ -148,10 +168,7 @@ impl TermBuilder {
     pub fn has_room(&self) -> bool
         ensures { IsTrue result ↔ innermost self.now.base self.now.frames < 255 }
     {
-        match self.places.top() {
-            Some(at) => arguments_at(self.cells.as_slice(), at) < 255,
-            None => self.whole < 255,
-        }
+        self.innermost < 255
     }
 
     /// Whether no application is open.
@@ -161,6 +178,7 @@ impl TermBuilder {
         self.places.top().is_none()
     }
 
+    #[inline(always)]
     fn add_leaf(&mut self, cell: Cell) -> Result<bool, OutOfMemory>
         requires { cells_of (leaf_term cell) ≡ cell ∷ [] }
         ensures room { IfOk result (λ done. IsTrue done ↔ innermost self.old.base self.old.frames < 255) }
@@ -168,11 +186,12 @@ impl TermBuilder {
         ensures full { IfOk result (λ done. ¬ (IsTrue done) → self.new ≡ self.old) }
         ensures err { OnErr result (self.new ≡ self.old) }
     {
-        if !self.has_room() {
+        if self.innermost >= 255 {
             return Ok(false);
         }
         self.cells.push(cell)?;
         count_term(&mut self.cells, &self.places, &mut self.whole);
+        self.innermost += 1;
         Ok(true)
     }
 
@@ -231,6 +250,7 @@ impl TermBuilder {
         self.cells.reserve(1)?;
         self.places.push(place)?;
         self.cells.push(Cell::App(name, 0))?;
+        self.innermost = 0;
         Ok(true)
     }
 
@@ -240,6 +260,7 @@ impl TermBuilder {
     {
         if self.places.pop() {
             count_term(&mut self.cells, &self.places, &mut self.whole);
+            self.innermost = innermost(self.cells.as_slice(), &self.places, self.whole);
         }
     }
 
@@ -250,6 +271,7 @@ impl TermBuilder {
         self.cells.clear();
         self.places.clear();
         self.whole = 0;
+        self.innermost = 0;
     }
 
     /// How many whole terms stand in no application.

@@ -5,6 +5,7 @@ pub mod arguments;
 pub mod arity;
 pub mod builder;
 pub mod cell;
+mod hints;
 pub mod laws;
 pub mod list;
 pub mod name;

@@ -76,6 +76,7 @@ impl Names {
 
     /// The id of a text, which gets one where it has none yet. Time is logarithmic in the number
     /// of names; a text that has an id takes no memory.
+    #[inline(always)]
     pub fn intern(&mut self, text: &[u8]) -> Result<NameId, OutOfMemory>
         requires { IsName text.now }
         ensures id { IfOk result (λ id. slice_get self.new id ≡ Some text.now) }

@@ -1,8 +1,9 @@
 //! Texts, numbered in the order in which they first came.
-ghost use Rattle.std.specs.Prelude.{◌≡◌, ◌<◌, ◌^◌, ◌++◌, ◌∷◌, [], true, false, IfOk, IsOk, OnOk, OnErr, Some, length, slice_get};
+ghost use Rattle.std.specs.Prelude.{◌≡◌, ◌<◌, ◌^◌, ◌++◌, ◌∷◌, [], true, false, IfOk, IfSome, IsOk, OnOk, OnErr, Some, length, slice_get};
 ghost use Rattle.fpc_base.specs.Tokens.{is_one_of};
 ghost use Rattle.fpc_terms.specs.Name.{AreDifferent, index_in, with_text, place_in};
 
+use crate::hints::Hints;
 use fpc_base::outside::OutOfMemory;
 use std::alloc::Global;
 use std::collections::BTreeMap;
@@ -16,6 +17,7 @@ const MOST: usize = 0xffff_ffff;
 pub(crate) struct TextTable {
     texts: Vec<Vec<u8>>,
     numbers: BTreeMap<Vec<u8>, u32>,
+    hints: Hints,
 }
 
 impl Model for TextTable {
@@ -37,6 +39,7 @@ impl TextTable {
         TextTable {
             texts: Vec::new(alloc),
             numbers: BTreeMap::new(alloc),
+            hints: Hints::new(alloc),
         }
     }
 
@@ -63,23 +66,70 @@ impl TextTable {
         let _ = &self.texts;
     }
 
-    /// The number of a text that is there. Time is logarithmic in the number of texts.
+    /// The number of a text that is there. Time is logarithmic in the number of texts, and constant
+    /// where the text's hint is right.
     pub(crate) fn find(&self, text: &[u8]) -> Option<u32>
+        ensures { result ≡ place_in self.now text.now }
+    {
+        match self.hinted(text) {
+            Some(number) => Some(number),
+            None => self.searched(text),
+        }
+    }
+
+    /// The number of a text, where its hint is right.
+    #[inline(always)]
+    fn hinted(&self, text: &[u8]) -> Option<u32>
+        ensures { IfSome result (λ k. place_in self.now text.now ≡ Some k) }
+    {
+        let place = self.hints.place(text)?;
+        match self.texts.get(place as usize) {
+            Some(kept) => {
+                if kept.as_slice() == text {
+                    return Some(place);
+                }
+                None
+            }
+            None => None,
+        }
+    }
+
+    /// The number of a text that is there, without its hint.
+    fn searched(&self, text: &[u8]) -> Option<u32>
         ensures { result ≡ place_in self.now text.now }
     {
         self.numbers.get(text).copied()
     }
 
     /// The number of a text, which gets the next one where it has none yet. Time is logarithmic in
-    /// the number of texts; a text that has a number takes no memory.
+    /// the number of texts, and constant where the text's hint is right; a text that has a number
+    /// takes no memory.
+    #[inline(always)]
     pub(crate) fn number(&mut self, text: &[u8]) -> Result<u32, OutOfMemory>
         ensures number { IfOk result (λ k. k ≡ index_in self.new text.now) }
         ensures texts { OnOk result (self.new ≡ with_text self.old text.now) }
         ensures known { is_one_of self.old text.now ≡ true → IsOk result }
         ensures err { OnErr result (self.new ≡ self.old) }
     {
-        match self.find(text) {
+        match self.hinted(text) {
             Some(number) => Ok(number),
+            None => self.number_unhinted(text),
+        }
+    }
+
+    /// The number of a text, which gets a hint.
+    #[inline(never)]
+    fn number_unhinted(&mut self, text: &[u8]) -> Result<u32, OutOfMemory>
+        ensures number { IfOk result (λ k. k ≡ index_in self.new text.now) }
+        ensures texts { OnOk result (self.new ≡ with_text self.old text.now) }
+        ensures known { is_one_of self.old text.now ≡ true → IsOk result }
+        ensures err { OnErr result (self.new ≡ self.old) }
+    {
+        match self.searched(text) {
+            Some(number) => {
+                self.hints.set(text, number);
+                Ok(number)
+            }
             None => self.add(text),
         }
     }
@@ -95,11 +145,13 @@ impl TextTable {
         if place == MOST {
             return Err(OutOfMemory);
         }
+        self.hints.begin()?;
         let key = text.to_vec(alloc)?;
         let kept = text.to_vec(alloc)?;
         self.texts.reserve(1)?;
         self.numbers.insert(key, place as u32)?;
         self.texts.push(kept)?;
+        self.hints.set(text, place as u32);
         Ok(place as u32)
     }
 }

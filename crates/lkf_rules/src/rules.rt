@@ -1,35 +1,24 @@
 //! The rules of LKF: the premises that a step names at a sequent.
-ghost use Rattle.std.specs.Prelude.{◌≡◌, ◌≢◌, ◌↔◌, List, [], ◌<◌, ◌-◌, ◌^◌, Some, None, IfOk, IfErr, OnErr, Err, slice_get};
+ghost use Rattle.std.specs.Prelude.{◌≡◌, ◌≢◌, ◌↔◌, List, ◌<◌, ◌-◌, ◌^◌, Some, None, IfOk, Err};
 ghost use Rattle.lkf_rules.specs.Sequent.{root_of, Levelled, IsInScope};
-ghost use Rattle.polarised_formulas.specs.Formula.{Formula};
-ghost use Rattle.lkf_rules.specs.Premises.{premises_of, worked, chosen, focused};
-ghost use Rattle.lkf_rules.specs.Effect.{Tells, TellsTo};
+ghost use Rattle.lkf_rules.specs.Premises.{premises_of};
 ghost use Rattle.lkf_rules.specs.Instance.{IsInstance};
 ghost use Rattle.lkf_rules.specs.Values.{levelled, premise_list, Answers, MayRunOut};
 
 pub mod effect;
 pub mod outcome;
-pub mod storable;
+mod storable;
+pub mod table;
+mod whole;
 
 use crate::sequent::Sequent;
-use effect::Effect;
 use fpc_base::outside::OutOfMemory;
-use fpc_terms::cell::Cell;
-use fpc_terms::term::TermBuf;
-use outcome::{Premises, StepRefusal, fits, only};
-use polarised_formulas::dual::{dual, is_dual};
+use outcome::{Premises, StepRefusal, only};
 use polarised_formulas::formula::Formula;
 use polarised_formulas::list::Formulas;
-use polarised_formulas::logic::Polarity::{Negative, Positive};
-use polarised_formulas::logic::{Logic, Side};
-use polarised_formulas::node::Node;
-use polarised_formulas::opening::open_with;
-use polarised_formulas::parts::parts;
-use polarised_formulas::scope::{is_in_scope, may_be_cut};
-use polarised_formulas::shape::{outermost, polarity};
 use polarised_formulas::step::Step;
 use std::alloc::Global;
-use storable::is_storable;
+use whole::{on_first, on_focus, on_nothing};
 
 /// The root sequent of a goal, at level 0: nothing is stored, and the goal is worked on. Time and
 /// memory are linear in the goal's size.
@@ -41,120 +30,6 @@ pub fn root(alloc: Global, goal: &Formula) -> Result<Sequent, OutOfMemory>
         stored: Formulas::new(alloc),
         work: only(alloc, goal.copy()?)?,
     })
-}
-
-/// The stored formula at a place; without one the step does not fit.
-fn stored_at(stored: &[Formula], k: u64) -> Result<&Formula, StepRefusal>
-    ensures some { IfOk result (λ f. slice_get stored.now k ≡ Some f.now) }
-    ensures none { OnErr result (slice_get stored.now k ≡ None) }
-    ensures unfit { IfErr result (λ e. e ≡ StepRefusal.DoesNotFit) }
-{
-    if k >= stored.len() as u64 {
-        return Err(StepRefusal::DoesNotFit);
-    }
-    Ok(&stored[k as usize])
-}
-
-/// The rules of the negative phase, each with the step and the outermost node of the first worked
-/// formula that it asks for, and what it does. Time and memory are linear in the formula's size.
-#[tactic(auto, using(crate::proofs::StepFacts::step_facts))]
-pub fn on_first(
-    alloc: Global,
-    level: u64,
-    first: &Formula,
-    step: &Step,
-) -> Result<Effect, StepRefusal>
-    ensures { (s g : List Formula) → Tells result level s g (worked step.now level s first.now g) }
-{
-    match (step, outermost(first)) {
-        (Step::TrueN, Node::True(Negative)) => Ok(Effect::Close),
-        (Step::FalseN, Node::False(Negative)) => Ok(Effect::Pass),
-        (Step::OrN, Node::Or(Negative)) => {
-            let (a, b) = parts(alloc, first)?;
-            Ok(Effect::WorkBoth(a, b))
-        }
-        (Step::AndN, Node::And(Negative)) => {
-            let (a, b) = parts(alloc, first)?;
-            Ok(Effect::Split(a, b))
-        }
-        // The eigenvariable is fresh: those of the sequent are below the level.
-        (Step::Every, Node::ForAll) => {
-            let eigenvariable = TermBuf::from_cells(alloc, &[Cell::Eigen(level)])?;
-            Ok(Effect::Raise(open_with(alloc, first, &eigenvariable)?))
-        }
-        (Step::Store, _) => {
-            fits(is_storable(first))?;
-            Ok(Effect::Store(first.copy()?))
-        }
-        _ => Err(StepRefusal::DoesNotFit),
-    }
-}
-
-/// The rules at a sequent with nothing left to work on. Time and memory are linear in the size of
-/// the formula that the step chooses.
-#[tactic(auto, using(crate::proofs::StepFacts::cut_facts))]
-pub fn on_nothing(
-    alloc: Global,
-    level: u64,
-    stored: &[Formula],
-    step: &Step,
-) -> Result<Effect, StepRefusal>
-    ensures { TellsTo step.now result level stored.now [] (chosen step.now level stored.now) }
-{
-    match step {
-        Step::Decide(k) => {
-            let chosen = stored_at(stored, *k)?;
-            fits(polarity(chosen) == Positive)?;
-            Ok(Effect::Focus(chosen.copy()?))
-        }
-        Step::Cut(b) => {
-            fits(may_be_cut(alloc, Logic::Lkf, b, level)?)?;
-            Ok(Effect::Split(b.copy()?, dual(alloc, b)?))
-        }
-        _ => Err(StepRefusal::DoesNotFit),
-    }
-}
-
-/// The rules of the positive phase, each with the step and the outermost node of the formula under
-/// focus that it asks for, and what it does. Time and memory are linear in the sizes of the formula
-/// and of the step's term.
-#[tactic(auto, using(crate::proofs::StepFacts::step_facts, crate::proofs::InitialFacts::initial_facts))]
-pub fn on_focus(
-    alloc: Global,
-    level: u64,
-    stored: &[Formula],
-    focus: &Formula,
-    step: &Step,
-) -> Result<Effect, StepRefusal>
-    ensures { Tells result level stored.now [] (focused step.now level stored.now focus.now) }
-{
-    match (step, outermost(focus)) {
-        (Step::TrueP, Node::True(Positive)) => Ok(Effect::Close),
-        (Step::AndP, Node::And(Positive)) => {
-            let (a, b) = parts(alloc, focus)?;
-            Ok(Effect::FocusEach(a, b))
-        }
-        (Step::OrP(side), Node::Or(Positive)) => {
-            let (a, b) = parts(alloc, focus)?;
-            match side {
-                Side::Left => Ok(Effect::Focus(a)),
-                Side::Right => Ok(Effect::Focus(b)),
-            }
-        }
-        (Step::Exists(t), Node::Exists) => {
-            fits(is_in_scope(t, level))?;
-            Ok(Effect::Focus(open_with(alloc, focus, t)?))
-        }
-        (Step::Release, _) => {
-            fits(polarity(focus) == Negative)?;
-            Ok(Effect::Work(focus.copy()?))
-        }
-        (Step::Init(k), Node::Atom { positive: true, .. }) => {
-            fits(is_dual(focus, stored_at(stored, *k)?))?;
-            Ok(Effect::Close)
-        }
-        _ => Err(StepRefusal::DoesNotFit),
-    }
 }
 
 /// What a step comes to at a sequent.

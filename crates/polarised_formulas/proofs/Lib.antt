@@ -74,3 +74,9 @@ pub mod NodePutFacts
 pub mod OpenedPutFacts
 pub mod SameTexts
 pub mod TableGrowth
+pub mod ReferenceFacts
+pub mod FillFacts
+pub mod AtFacts
+pub mod HeldFacts
+pub mod ArgumentFacts
+pub mod PlainRuns

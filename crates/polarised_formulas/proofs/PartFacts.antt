@@ -47,7 +47,7 @@ mutual
   front-all_before no_args k cs ns = simp add-zero (omega arith)
   front-all_before (arg t ts) k cs ns = simp add-suc (omega (arith, front-cells_before t (k + count ts) (all_before ts cs) ns, front-all_before ts k cs ns))
 
-front-nodes_before : (f : Formula) (k : ℕ) (ns : List Node) → front_length (suc k) (nodes_before f ns) ≡ node_count f + front_length k ns
+pub front-nodes_before : (f : Formula) (k : ℕ) (ns : List Node) → front_length (suc k) (nodes_before f ns) ≡ node_count f + front_length k ns
 front-nodes_before (truth p) k ns = simp add-zero (omega arith)
 front-nodes_before (falsity p) k ns = simp add-zero (omega arith)
 front-nodes_before (atom positive name ts) k ns = omega (arith, front-all_before ts k [] ns)
@@ -116,13 +116,13 @@ nodes_before-append (for_all a) ns ms = rw (nodes_before-append a ns ms)
 nodes_before-append (exists a) ns ms = rw (nodes_before-append a ns ms)
 
 -- where the first formula ends
-first_ends : (f : Formula) (ns : List Node) → front_length 1 (nodes_before f ns) ≡ length (nodes_of f)
+pub first_ends : (f : Formula) (ns : List Node) → front_length 1 (nodes_before f ns) ≡ length (nodes_of f)
 first_ends f ns = omega (arith, front-nodes_before f 0 ns, length-nodes_before f [])
 
-take-first : (f : Formula) (ns : List Node) → take (front_length 1 (nodes_before f ns)) (nodes_before f ns) ≡ nodes_of f
+pub take-first : (f : Formula) (ns : List Node) → take (front_length 1 (nodes_before f ns)) (nodes_before f ns) ≡ nodes_of f
 take-first f ns = rw (first_ends f ns, ← nodes_before-append f [] ns) (take-append_seam (nodes_of f) ns)
 
-drop-first : (f : Formula) (ns : List Node) → drop (front_length 1 (nodes_before f ns)) (nodes_before f ns) ≡ ns
+pub drop-first : (f : Formula) (ns : List Node) → drop (front_length 1 (nodes_before f ns)) (nodes_before f ns) ≡ ns
 drop-first f ns = rw (first_ends f ns, ← nodes_before-append f [] ns) (drop-append_seam (nodes_of f) ns)
 
 -- nodes that are those of a formula's two parts

@@ -1,14 +1,13 @@
 -- Formulas that are the same but for the numbers of their names.
-use Rattle.std.proofs.Common.{◌≡◌, ℕ, suc, Bool, true, not, List, ◌∷◌, refl}
+use Rattle.std.proofs.Common.{◌≡◌, ℕ, suc, true, not, List, ◌∷◌, refl}
 use Rattle.fpc_base.specs.Tokens.{is_one_of}
-use Rattle.fpc_terms.specs.Term.{Term, Args}
+use Rattle.fpc_terms.specs.Term.{Term}
 use Rattle.fpc_terms.specs.Written.{WrittenTerm, WrittenArgs, variable_word, application, no_words, words, term_meant, args_meant}
-use Rattle.polarised_formulas.specs.declared.logic.Polarity.{Polarity}
 use Rattle.polarised_formulas.specs.declared.connective.Joiner.{Joiner}
 use Rattle.polarised_formulas.specs.declared.connective.Joiner.TheVariants.{And, Or, Implies}
 use Rattle.polarised_formulas.specs.declared.connective.Binder.{Binder}
 use Rattle.polarised_formulas.specs.declared.connective.Binder.TheVariants.{ForAll, Exists}
-use Rattle.polarised_formulas.specs.Formula.{Formula, truth, falsity, atom, conj, disj, implies, for_all, exists, polarity_of, other_polarity, dual_of, open_at}
+use Rattle.polarised_formulas.specs.Formula.{Formula, polarity_of, other_polarity, dual_of, open_at}
 use Rattle.polarised_formulas.specs.Written.{WrittenFormula, true_unit, false_unit, literal, pair, bind, index_in, variable_meant, joined_by, bound_by, formula_meant}
 use Rattle.polarised_formulas.specs.PlainForm.{begins_name}
 use Rattle.polarised_formulas.specs.EachName.{EachName, EachNameOf, EachNameIn}

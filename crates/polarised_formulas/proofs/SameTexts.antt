@@ -1,5 +1,5 @@
 -- Formulas that are the same by their names have the same text, each by its own table; and formulas with names in a table are the same as themselves.
-use Rattle.std.proofs.Common.{◌≡◌, ℕ, suc, ◌<◌, List, [], ◌∷◌, ◌++◌, codes, refl, ap, ap₂}
+use Rattle.std.proofs.Common.{◌≡◌, ℕ, suc, ◌<◌, List, ◌∷◌, ◌++◌, codes, ap, ap₂}
 use Rattle.fpc_terms.proofs.SameTexts.{args_before-same, args_itself, args_named}
 use Rattle.polarised_formulas.specs.declared.logic.Logic.{Logic}
 use Rattle.polarised_formulas.specs.Formula.{Formula, truth, falsity, atom, conj, disj, implies, for_all, exists}

@@ -33,3 +33,11 @@ pub mod Calculus
 pub mod OpenFormula
 pub mod NodePut
 pub mod Same
+pub mod Parts
+pub mod Sizes
+pub mod References
+pub mod Closure
+pub mod Held
+pub mod Grows
+pub mod ArgumentCells
+pub mod PlainRuns

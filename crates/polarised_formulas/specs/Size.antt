@@ -3,7 +3,7 @@ use Rattle.std.specs.Prelude.{ℕ, suc, ◌≤◌, max}
 use Rattle.fpc_terms.specs.Term.{count}
 pub use Rattle.fpc_terms.specs.Arity.{HasFew, AllHaveFew, IsFewCell}
 use Rattle.polarised_formulas.specs.declared.node.Node.{Node}
-use Rattle.polarised_formulas.specs.declared.node.Node.TheVariants.{True, False, Atom, And, Or, Implies, ForAll, Exists, Inside}
+use Rattle.polarised_formulas.specs.declared.node.Node.TheVariants.{Atom, Inside}
 use Rattle.polarised_formulas.specs.declared.step.Step.{Step}
 use Rattle.polarised_formulas.specs.declared.step.Step.TheVariants as step
 use Rattle.polarised_formulas.specs.Formula.{Formula, truth, falsity, atom, conj, disj, implies, for_all, exists}

@@ -365,4 +365,14 @@ impl FormulaBuilder {
             Err(error) => Err(error),
         }
     }
+
+    /// The formula, where it is whole and no pair is open. It takes the nodes over, in constant time.
+    pub fn into_formula(self) -> Option<Formula>
+        ensures { result ≡ whole (left self) }
+    {
+        if !self.is_whole || self.around.len() != self.around.quantifiers() {
+            return None;
+        }
+        Some(Formula::from_node_list(self.nodes))
+    }
 }

@@ -20,7 +20,7 @@ pub fn other(polarity: Polarity) -> Polarity
 }
 
 /// The node that stands in the dual formula in the place of this one.
-fn dual_of_node(node: Node) -> Node
+pub fn dual_of_node(node: Node) -> Node
     ensures { result ≡ node_dual node }
 {
     match node {

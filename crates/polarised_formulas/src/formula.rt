@@ -44,6 +44,14 @@ impl Formula {
         Formula { nodes }
     }
 
+    /// The nodes of the formula, which is used up. Constant time.
+    pub(crate) fn into_node_list(self) -> Vec<Node>
+        ensures { result.items ≡ nodes_of self }
+    {
+        let Formula { nodes } = self;
+        nodes
+    }
+
     /// The nodes in prefix order.
     pub fn nodes(&self) -> &[Node]
         ensures { result.now ≡ nodes_of self.now }

@@ -12,7 +12,7 @@ use fpc_terms::cell::Cell;
 use std::alloc::Global;
 
 /// How many formulas and terms stand behind a node as its parts.
-fn arity_of_node(node: Node) -> u64
+pub(crate) fn arity_of_node(node: Node) -> u64
     ensures { result ≡ arity node }
 {
     match node {

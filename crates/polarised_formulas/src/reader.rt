@@ -546,7 +546,7 @@ impl<'a> FormulaReader<'a> {
         self.stands() && self.is_outermost()
     }
 
-    /// The formula, where it is whole. Time and memory are linear in its size.
+    /// The formula, where it is whole. It takes the nodes over, in constant time.
     pub fn finish(self) -> Result<Option<Formula>, OutOfMemory>
         ensures whole { (number : List ℕ → ℕ) (logic : Logic) (parameters : List (List ℕ))
             (s : FormulaState) (w : WrittenFormula) → Holds number logic parameters s self.entry
@@ -573,7 +573,7 @@ impl<'a> FormulaReader<'a> {
         let mode = self.mode;
         match mode {
             Mode::Named(positive, name) => finish_plain_atom(self.builder, alloc, positive, name),
-            _ => self.builder.finish(alloc),
+            _ => Ok(self.builder.into_formula()),
         }
     }
 }
@@ -590,7 +590,7 @@ fn finish_plain_atom(
     let mut builder = builder;
     let none = TermBuilder::new(alloc);
     match builder.literal(positive, name, &none) {
-        Ok(true) => builder.finish(alloc),
+        Ok(true) => Ok(builder.into_formula()),
         // A formula is to come, so only memory can be missing.
         Ok(false) | Err(_) => Err(OutOfMemory),
     }

@@ -8,7 +8,7 @@ use crate::logic::Polarity;
 use crate::node::Node;
 
 /// The polarity of a formula whose outermost node this is.
-fn polarity_of_node(node: Node) -> Polarity
+pub fn polarity_of_node(node: Node) -> Polarity
     ensures { result ≡ node_polarity node }
 {
     match node {

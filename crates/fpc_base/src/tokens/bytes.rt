@@ -1,7 +1,7 @@
 //! Tests of bytes.
 ghost use Rattle.std.specs.Prelude.{◌≡◌, ◌≤◌, length};
 ghost use Rattle.std.specs.List.{prefix_len};
-ghost use Rattle.fpc_base.specs.Tokens.{is_small, is_capital, is_digit, is_word_byte, is_blank, is_in_line};
+ghost use Rattle.fpc_base.specs.Tokens.{is_small, is_capital, is_digit, is_word_byte, is_in_line};
 
 pub fn is_small(byte: u8) -> bool
     ensures { result ≡ is_small byte }
@@ -25,12 +25,6 @@ pub fn is_word_byte(byte: u8) -> bool
     ensures { result ≡ is_word_byte byte }
 {
     is_small(byte) || is_capital(byte) || is_digit(byte) || byte == b'_'
-}
-
-pub fn is_blank(byte: u8) -> bool
-    ensures { result ≡ is_blank byte }
-{
-    byte == b' ' || byte == b'\t' || byte == b'\n' || byte == b'\r'
 }
 
 /// How many bytes at the front may stand in a word.

@@ -1,12 +1,12 @@
 //! What stands at the front of some bytes.
-ghost use Rattle.std.specs.Prelude.{◌≡◌, ℕ, ◌+◌, ◌<◌, ◌≤◌, List, [], ◌∷◌, length};
-ghost use Rattle.fpc_base.specs.Tokens.{is_one_of, symbols, unit_words, keywords, begins_with_sign, limited, word_of, symbol_of, short_symbol_of, front_of, size_of};
+ghost use Rattle.std.specs.Prelude.{◌≡◌, ℕ, ◌+◌, ◌<◌, ◌≤◌, List, [], ◌∷◌, false, IsTrue, length};
+ghost use Rattle.fpc_base.specs.declared.tokens.TokenKind.TheVariants.{Symbol};
+ghost use Rattle.fpc_base.specs.declared.tokens.front.Front.TheVariants.{Piece};
+ghost use Rattle.fpc_base.specs.Tokens.{is_one_of, is_small, symbols, unit_words, keywords, begins_with_sign, limited, word_of, symbol_of, short_symbol_of, front_of, size_of};
 
 use crate::refusal::Code;
 use crate::tokens::TokenKind;
-use crate::tokens::bytes::{
-    digits, is_blank, is_capital, is_digit, is_small, line_bytes, word_bytes,
-};
+use crate::tokens::bytes::{digits, is_small, line_bytes, word_bytes};
 
 /// The most bytes of a name or a variable.
 const MOST_NAME_BYTES: usize = 255;
@@ -115,6 +115,33 @@ fn symbol(first: u8, rest: &[u8]) -> Front
     }
 }
 
+/// Whether the byte is a parenthesis or a comma: a symbol with which no longer one begins.
+fn is_separator(byte: u8) -> bool
+    ensures { (rest : List ℕ) → IsTrue result → front_of byte rest ≡ Piece Symbol 1 }
+{
+    match byte {
+        b'(' | b')' | b',' => true,
+        _ => false,
+    }
+}
+
+/// What stands at the front of bytes that begin with no small letter.
+fn other_front(first: u8, rest: &[u8]) -> Front
+    requires { is_small first ≡ false }
+    ensures front { result ≡ front_of first rest.now }
+    ensures some { 0 < size_of result }
+    ensures within { size_of result ≤ 1 + length rest.now }
+{
+    match first {
+        b' ' | b'\t' | b'\n' | b'\r' => Front::Gap(1),
+        b'%' => Front::Gap(1 + line_bytes(rest)),
+        b'A'..=b'Z' => limited(MOST_NAME_BYTES, TokenKind::Variable, 1 + word_bytes(rest)),
+        b'0' => Front::Piece(TokenKind::Number, 1),
+        b'1'..=b'9' => limited(MOST_DIGITS, TokenKind::Number, 1 + digits(rest)),
+        _ => symbol(first, rest),
+    }
+}
+
 /// What stands at the front of the bytes.
 pub fn front_at(bytes: &[u8]) -> Front
     requires { 0 < length bytes.now }
@@ -124,20 +151,12 @@ pub fn front_at(bytes: &[u8]) -> Front
 {
     let first = bytes[0];
     let rest = &bytes[1..];
-    if is_blank(first) {
-        Front::Gap(1)
-    } else if first == b'%' {
-        Front::Gap(1 + line_bytes(rest))
+    if is_separator(first) {
+        Front::Piece(TokenKind::Symbol, 1)
     } else if is_small(first) {
         let (text, behind) = bytes.split_at(1 + word_bytes(rest));
         word(text, behind)
-    } else if is_capital(first) {
-        limited(MOST_NAME_BYTES, TokenKind::Variable, 1 + word_bytes(rest))
-    } else if first == b'0' {
-        Front::Piece(TokenKind::Number, 1)
-    } else if is_digit(first) {
-        limited(MOST_DIGITS, TokenKind::Number, 1 + digits(rest))
     } else {
-        symbol(first, rest)
+        other_front(first, rest)
     }
 }

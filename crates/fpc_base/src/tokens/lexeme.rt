@@ -1,5 +1,5 @@
 //! What a token says, apart from its place.
-ghost use Rattle.std.specs.Prelude.{◌≡◌, IsTrue, ◌↔◌};
+ghost use Rattle.std.specs.Prelude.{◌≡◌, ◌∷◌, [], IsTrue, ◌↔◌};
 ghost use Rattle.fpc_base.specs.Lexeme.{lexeme_as, lexeme_of, a_sign, sign_of_symbol, sign_of_word};
 
 use super::{Token, TokenKind};
@@ -107,43 +107,47 @@ fn said<'a>(sign: Option<Sign>) -> Lexeme<'a>
     }
 }
 
+/// The sign of a symbol of one byte.
+fn short_symbol(byte: u8) -> Option<Sign>
+    ensures { result ≡ sign_of_symbol (byte ∷ []) }
+{
+    match byte {
+        b'(' => Some(Sign::OpenParenthesis),
+        b')' => Some(Sign::CloseParenthesis),
+        b',' => Some(Sign::Comma),
+        b'.' => Some(Sign::Dot),
+        b':' => Some(Sign::Colon),
+        b'|' => Some(Sign::Bar),
+        b'~' => Some(Sign::Tilde),
+        b'+' => Some(Sign::Plus),
+        b'-' => Some(Sign::Minus),
+        _ => None,
+    }
+}
+
+/// The sign of a symbol of two bytes.
+fn long_symbol(first: u8, second: u8) -> Option<Sign>
+    ensures { result ≡ sign_of_symbol (first ∷ second ∷ []) }
+{
+    match (first, second) {
+        (b':', b'-') => Some(Sign::If),
+        (b':', b'=') => Some(Sign::Defined),
+        (b'|', b'+') => Some(Sign::BarPlus),
+        (b'|', b'-') => Some(Sign::BarMinus),
+        (b'&', b'+') => Some(Sign::AndPlus),
+        (b'&', b'-') => Some(Sign::AndMinus),
+        (b'=', b'>') => Some(Sign::Arrow),
+        _ => None,
+    }
+}
+
 fn symbol(text: &[u8]) -> Option<Sign>
     ensures { result ≡ sign_of_symbol text.now }
 {
-    if text == b"(".as_slice() {
-        Some(Sign::OpenParenthesis)
-    } else if text == b")".as_slice() {
-        Some(Sign::CloseParenthesis)
-    } else if text == b",".as_slice() {
-        Some(Sign::Comma)
-    } else if text == b".".as_slice() {
-        Some(Sign::Dot)
-    } else if text == b":".as_slice() {
-        Some(Sign::Colon)
-    } else if text == b":-".as_slice() {
-        Some(Sign::If)
-    } else if text == b":=".as_slice() {
-        Some(Sign::Defined)
-    } else if text == b"|".as_slice() {
-        Some(Sign::Bar)
-    } else if text == b"|+".as_slice() {
-        Some(Sign::BarPlus)
-    } else if text == b"|-".as_slice() {
-        Some(Sign::BarMinus)
-    } else if text == b"&+".as_slice() {
-        Some(Sign::AndPlus)
-    } else if text == b"&-".as_slice() {
-        Some(Sign::AndMinus)
-    } else if text == b"=>".as_slice() {
-        Some(Sign::Arrow)
-    } else if text == b"~".as_slice() {
-        Some(Sign::Tilde)
-    } else if text == b"+".as_slice() {
-        Some(Sign::Plus)
-    } else if text == b"-".as_slice() {
-        Some(Sign::Minus)
-    } else {
-        None
+    match text {
+        [byte] => short_symbol(*byte),
+        [first, second] => long_symbol(*first, *second),
+        _ => None,
     }
 }
 

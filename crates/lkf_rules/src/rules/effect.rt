@@ -10,30 +10,31 @@ use polarised_formulas::formula::Formula;
 use polarised_formulas::list::Formulas;
 use std::alloc::Global;
 
-/// What becomes of a sequent: the stored formulas and the worked ones behind the first stay, and a formula under focus leaves it.
+/// What becomes of a sequent that holds its formulas as F: the stored formulas and the worked ones
+/// behind the first stay, and a formula under focus leaves it.
 #[derive(Drop)]
-pub enum Effect {
+pub enum Effect<F> {
     /// There is no premise.
     Close,
     /// The first worked formula goes.
     Pass,
     /// This formula is worked on first.
-    Work(Formula),
+    Work(F),
     /// These formulas are worked on first, one after the other.
-    WorkBoth(Formula, Formula),
+    WorkBoth(F, F),
     /// Each formula is worked on first in a premise of its own.
-    Split(Formula, Formula),
+    Split(F, F),
     /// This formula is worked on first, at the next level.
-    Raise(Formula),
+    Raise(F),
     /// This formula, the first worked one, goes to the end of the stored formulas.
-    Store(Formula),
+    Store(F),
     /// This formula is under focus.
-    Focus(Formula),
+    Focus(F),
     /// Each formula is under focus in a premise of its own.
-    FocusEach(Formula, Formula),
+    FocusEach(F, F),
 }
 
-impl Effect {
+impl Effect<Formula> {
     /// The premises at a level with these stored formulas and these worked ones behind the first.
     pub(crate) fn premises(
         self,
@@ -43,7 +44,8 @@ impl Effect {
         rest: &[Formula],
     ) -> Result<Premises, StepRefusal>
         requires level { level < 2 ^ 64 - 1 }
-        ensures { Gives result (Some (premises_by self level stored.now rest.now)) }
+        ensures { Gives result
+            (Some (premises_by (λ f. f) self level stored.now rest.now)) }
     {
         match self {
             Effect::Close => Ok(Premises::None),

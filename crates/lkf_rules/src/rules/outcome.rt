@@ -38,7 +38,7 @@ impl From<outside::OutOfMemory> for StepRefusal {
 }
 
 /// A step fits only where this holds.
-pub(crate) fn fits(holds: bool) -> Result<(), StepRefusal>
+pub fn fits(holds: bool) -> Result<(), StepRefusal>
     ensures ok { OnOk result (holds ≡ true) }
     ensures err { OnErr result (holds ≡ false) }
     ensures unfit { IfErr result (λ e. e ≡ StepRefusal.DoesNotFit) }

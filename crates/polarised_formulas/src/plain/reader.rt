@@ -13,6 +13,7 @@ ghost use Rattle.polarised_formulas.specs.PlainReading.{Hole, Around, alone, in_
 ghost use Rattle.polarised_formulas.specs.PlainLimits.{nesting};
 ghost use Rattle.polarised_formulas.specs.PlainStanding.{Stands, IsOutside, IsLiteral, IsNext, IsOn, IsNamed, begun, BeginsWord, word_meant, operator_of, built_holes, told_of, next_unnamed};
 
+pub mod runs;
 mod terms;
 mod words;
 
@@ -136,18 +137,20 @@ impl PlainReader {
         }
     }
 
-    /// Begins the line of a term.
-    pub fn begin_term(&mut self)
-        ensures { Stands self.old.logic (at_term alone) self.new }
+    /// Begins the line of a term of the logic.
+    pub fn begin_term(&mut self, logic: Logic)
+        ensures { Stands logic (at_term alone) self.new }
     {
+        self.logic = logic;
         self.clear();
         self.mode = Mode::AtTerm;
     }
 
-    /// Begins the line of a formula.
-    pub fn begin_formula(&mut self)
-        ensures { Stands self.old.logic (at_formula []) self.new }
+    /// Begins the line of a formula of the logic.
+    pub fn begin_formula(&mut self, logic: Logic)
+        ensures { Stands logic (at_formula []) self.new }
     {
+        self.logic = logic;
         self.clear();
         self.mode = Mode::AtFormula;
     }

@@ -86,7 +86,7 @@ impl PlainReader {
     }
 
     /// Takes the byte behind a name so far.
-    fn end_named_term(&mut self, name: NameId, b: u8) -> Result<Progress, TokenRefusal>
+    pub(super) fn end_named_term(&mut self, name: NameId, b: u8) -> Result<Progress, TokenRefusal>
         ensures { (logic : Logic) (up : Around) → IsAround logic up self.old
             → IsNext logic 0 result self.new (if nat_eq b 40 then on (at_term (in_term name [] up)) else end_term up (app name no_args) b) }
     {

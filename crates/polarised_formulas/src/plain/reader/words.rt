@@ -1,5 +1,6 @@
 //! The words of the plain form, and the bytes of names.
-ghost use Rattle.std.specs.Prelude.{◌≡◌, List, Some, None};
+ghost use Rattle.std.specs.Prelude.{◌≡◌, ◌≤◌, List, Some, None, length};
+ghost use Rattle.std.specs.List.{prefix_len};
 ghost use Rattle.fpc_terms.specs.Name.{is_small_letter, is_name_byte};
 ghost use Rattle.polarised_formulas.specs.declared.logic.Logic.TheVariants.{Lkf, Ljf};
 ghost use Rattle.polarised_formulas.specs.PlainReading.{first_with, begins_some, word_text, words, link_text, operators, Hole, at_formula};
@@ -28,6 +29,14 @@ pub(crate) fn is_name_byte(b: u8) -> bool
     ensures { result ≡ is_name_byte b }
 {
     is_small_letter(b) || b >= b'A' && b <= b'Z' || b >= b'0' && b <= b'9' || b == b'_'
+}
+
+/// How many bytes at the front may stand in a name.
+pub(crate) fn name_bytes(bytes: &[u8]) -> usize
+    ensures count { result ≡ prefix_len is_name_byte bytes.now }
+    ensures within { result ≤ length bytes.now }
+{
+    bytes.iter().take_while(|b| is_name_byte(**b)).count()
 }
 
 /// The word with these bytes, if any.

@@ -7,4 +7,4 @@ returns-in-Named c = λ number logic parameters s w h e.
 
 pub returns : goal.returns
 returns c = λ number logic parameters s w h e.
-    rw (whole-has number logic parameters s c.args.self w h e c.in_default.not-Named) at c.finish.ensures
+    rw (whole-has number logic parameters s c.args.self w h e c.in_default.not-Named) at c.into_formula.ensures
