@@ -21,8 +21,7 @@ use Rattle.explicit_form.specs.StepReading.{bare_step, placed_step, in_word, at_
 use Rattle.explicit_form.specs.StepLimits.{most_bytes, fault, AreUntold}
 use Rattle.explicit_form.specs.LineStanding.{Stands, plain_start}
 use Rattle.explicit_form.specs.Feeding.{IsAt, HasTaken, IsLine, StandsBehind, done_of, pushed, line_length, line_in}
-use Rattle.explicit_form.specs.Fronts.{IsWordAt, IsPlaceAt, IsBegin, IsSize, Leads}
-use Rattle.explicit_form.specs.declared.front.Front.TheVariants as front
+use Rattle.explicit_form.specs.Fronts.{IsWordAt, IsPlaceAt, IsBegin, Leads}
 use Rattle.explicit_form.proofs.Fronts.{word-leads, leads-on, taken-led}
 use Rattle.explicit_form.proofs.ReaderFeeding.{run-append, AreUntold-append}
 
@@ -93,11 +92,6 @@ module _ (number : List ℕ → ℕ) (logic : Logic) (st : State) (bytes : List 
       same written.FocRExists = refl
       same written.Cut = refl
 
-  pub at_place-taken : (p : Placed) (n : ℕ) (new : StepReader) → IsWordAt r.line.logic bytes (word.Placed p) → n ≡ length (word_text (word.Placed p)) → new.phase ≡ r.phase → Stands r.line.logic (at_place p) new.line → new.step ≡ None
-      → HasTaken number logic st r.at (take n bytes) new
-  at_place-taken p n new found e q l s =
-      word-front (word.Placed p) found n new e (q ∙ stood.0, subst (λ g. Stands g (at_place p) new.line) stood.1.logic_is l) (ap (λ o. pushed o between.0) (sym s))
-
   pub placed-taken : (p : Placed) (n k m : ℕ) (new : StepReader) → IsWordAt r.line.logic bytes (word.Placed p) → n ≡ length (word_text (word.Placed p)) → IsPlaceAt (drop n bytes) k m → n + m ≤ length bytes → new.phase ≡ r.phase → new.line ≡ r.line
       → new.step ≡ Some (placed_step p k) → HasTaken number logic st r.at (take (n + m) bytes) new
   placed-taken p n k m new found e place within q l s =
@@ -109,12 +103,12 @@ module _ (number : List ℕ → ℕ) (logic : Logic) (st : State) (bytes : List 
       (q ∙ stood.0, subst (Stands logic (in_word [])) (sym l) stood.1) (ap (λ o. pushed o between.0) (sym s))
 
 -- what was taken at once, and the bytes behind it
-module _ (old middle : StepReader) (bytes : List ℕ) (n : ℕ) (place : middle.at ≡ old.at + n) (size : IsSize bytes (front.Inside n)) where
+module _ (old middle : StepReader) (bytes : List ℕ) (n : ℕ) (place : middle.at ≡ old.at + n) (size : line_length bytes ≡ n + line_length (drop n bytes)) (within : n ≤ length bytes) where
   first_line : line_in bytes ≡ take n bytes ++ line_in (drop n bytes)
-  first_line = ap (λ m. take m bytes) size.0 ∙ take-add n (line_length (drop n bytes)) bytes
+  first_line = ap (λ m. take m bytes) size ∙ take-add n (line_length (drop n bytes)) bytes
 
   middle_at : middle.at ≡ old.at + length (take n bytes)
-  middle_at = place ∙ ap (λ m. old.at + m) (sym (length-take-le n bytes size.1))
+  middle_at = place ∙ ap (λ m. old.at + m) (sym (length-take-le n bytes within))
 
   module _ (number : List ℕ → ℕ) (logic : Logic) (st : State) (taken : HasTaken number logic st old.at (take n bytes) middle × (middle.step ≡ None)) where
     pub both-taken : (m : ℕ) (new : StepReader) → IsLine number logic (run number logic st (take n bytes)) middle.at (drop n bytes) (Ok m) new → HasTaken number logic st old.at (take (n + m) bytes) new

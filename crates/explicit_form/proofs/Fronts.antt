@@ -1,5 +1,5 @@
 -- What a reader sees of a line at once is what it reads byte by byte.
-use Rattle.std.proofs.Common.{◌≡◌, ℕ, suc, ◌+◌, ◌-◌, ◌<◌, ◌≤◌, Bool, true, false, if◌then◌else◌, ◌&&◌, inl, inr, List, [], ◌∷◌, ◌++◌, length, take, drop, Option, Some, None, refl, sym, ap, ◌∙◌, subst, arith, nat_eq, nat_lt, nat_le, add-one}
+use Rattle.std.proofs.Common.{◌≡◌, ℕ, suc, ◌+◌, ◌-◌, ◌<◌, ◌≤◌, Bool, true, false, if◌then◌else◌, ◌&&◌, inl, inr, List, [], ◌∷◌, ◌++◌, length, take, drop, Option, Some, None, IfSome, refl, sym, ap, ◌∙◌, subst, arith, nat_eq, nat_lt, nat_le, add-one}
 use Rattle.std.proofs.lemmas.Bool.{and_parts, and_from, cond-true, cond-false}
 use Rattle.std.proofs.lemmas.Bool.Decides.{nat_tests}
 use Rattle.std.proofs.Math.ListN.{get_or}
@@ -25,7 +25,7 @@ use Rattle.explicit_form.specs.StepText.{word_text, words, IsOneOf}
 use Rattle.explicit_form.specs.StepReading.{placed_step, in_word, at_place, in_place, behind_word, State, heading, reading, ended, mistaken, stuck, settle, go}
 use Rattle.explicit_form.specs.StepLimits.{most_bytes, state_limit, told_at, byte_fault, fault, AreUntold}
 use Rattle.explicit_form.specs.Feeding.{IsAt, HasTaken, done_of, pushed, line_length}
-use Rattle.explicit_form.specs.Fronts.{is_word, is_nothing, is_untold, are_untold, Leads, IsPlaceAt}
+use Rattle.explicit_form.specs.Fronts.{is_word, IsTextAt, IsFound, IsWordAt, is_nothing, is_untold, are_untold, Leads, IsPlaceAt}
 use Rattle.explicit_form.proofs.WordFacts.{IsOneOf-each}
 
 -- a word of the logic stands in its list
@@ -75,6 +75,23 @@ word_of Ljf (word.Bare bare.FocRRelease) h = inr (inr (inr (inr (inr (inr (inr (
 word_of Ljf (word.Written written.Cut) h = inr (inr (inr (inr (inr (inr (inr (inr (inr (inr (inr (inr (inr (inr (inr (inr (inr (inr (inr (inr (inr (inr (inr (inr (inr (inr (inl refl))))))))))))))))))))))))))
 word_of Ljf word.End h = inr (inr (inr (inr (inr (inr (inr (inr (inr (inr (inr (inr (inr (inr (inr (inr (inr (inr (inr (inr (inr (inr (inr (inr (inr (inr (inr (inl refl)))))))))))))))))))))))))))
 word_of _ _ h = cc
+
+-- a text that stands in the bytes ends in them
+text-fits : (bytes : List ℕ) (n : ℕ) (text : List ℕ) → IsTextAt bytes n text → n + length text ≤ length bytes
+text-fits bytes n [] h = omega (arith, h)
+text-fits bytes n (c ∷ cs) h = let l = text-fits bytes (suc n) cs h.1 in omega arith
+
+text-parts : (bytes : List ℕ) (n : ℕ) (text : List ℕ) → IsTextAt bytes n text → (more : List ℕ) × (drop n bytes ≡ text ++ more)
+text-parts bytes n [] h = (drop n bytes, refl)
+text-parts bytes n (c ∷ cs) h =
+    let l = text-fits bytes (suc n) cs h.1 in
+    let rest = text-parts bytes (suc n) cs h.1 in
+    (rest.0, drop-cons bytes n 0 (omega arith) ∙ ap (λ b. b ∷ drop (suc n) bytes) h.0 ∙ ap (λ bs. c ∷ bs) rest.1)
+
+-- what is found is a word of the logic, with all its bytes
+pub found-word : (logic own : Logic) (bytes : List ℕ) (o : Option (Word × ℕ)) → logic ≡ own → IfSome o (λ r. IsFound own bytes r.0 r.1) → IfSome o (λ r. IsWordAt logic bytes r.0 × (r.1 ≡ length (word_text r.0)))
+found-word logic own bytes None e h = tt
+found-word logic own bytes (Some r) e h = ((text-parts bytes 0 (word_text r.0) h.2, subst (λ l. IsOneOf r.0 (words l)) (sym e) (word_of own r.0 h.0)), h.1)
 
 -- a word is read to its end, and nothing is told of its bytes
 abbrev WordLeads : (List ℕ → ℕ) → Logic → Word → Type 0

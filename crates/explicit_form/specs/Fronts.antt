@@ -1,5 +1,5 @@
 -- What a reader sees of a line at once.
-use Rattle.std.specs.Prelude.{◌≡◌, ℕ, ◌+◌, ◌≤◌, Bool, true, false, ◌&&◌, List, [], ◌∷◌, ◌++◌, length, take, drop, Option, Some, None}
+use Rattle.std.specs.Prelude.{◌≡◌, ℕ, suc, slice_index_or, ◌+◌, ◌≤◌, Bool, true, false, ◌&&◌, List, [], ◌∷◌, ◌++◌, length, take, drop, Option, Some, None}
 use Rattle.fpc_base.specs.declared.refusal.Code.{Code}
 use Rattle.polarised_formulas.specs.declared.logic.Logic.{Logic}
 use Rattle.polarised_formulas.specs.declared.logic.Logic.TheVariants.{Lkf, Ljf}
@@ -10,8 +10,6 @@ use Rattle.explicit_form.specs.declared.word.Placed.TheVariants as placed
 use Rattle.explicit_form.specs.declared.word.Written.TheVariants as written
 use Rattle.explicit_form.specs.declared.word.Word.{Word}
 use Rattle.explicit_form.specs.declared.word.Word.TheVariants as word
-use Rattle.explicit_form.specs.declared.front.Front.{Front}
-use Rattle.explicit_form.specs.declared.front.Front.TheVariants as front
 use Rattle.explicit_form.specs.declared.line.Mode as mode
 use Rattle.explicit_form.specs.declared.line.LineReader.{LineReader}
 use Rattle.explicit_form.specs.declared.step_reader.Phase as phase
@@ -19,7 +17,7 @@ use Rattle.explicit_form.specs.declared.step_reader.StepReader.{StepReader}
 use Rattle.explicit_form.specs.StepText.{word_text, words, IsOneOf}
 use Rattle.explicit_form.specs.StepReading.{in_word, at_place, placed_step, State, heading, reading, ended, mistaken, stuck, go, run}
 use Rattle.explicit_form.specs.StepLimits.{state_limit}
-use Rattle.explicit_form.specs.Feeding.{HasTaken, line_length}
+use Rattle.explicit_form.specs.Feeding.{line_length}
 
 -- the word is one of the logic's
 abbrev pub is_word : Logic → Word → Bool
@@ -59,6 +57,15 @@ is_word Ljf (word.Written written.Exists) = false
 is_word Ljf (word.Written _) = true
 is_word Ljf word.End = true
 
+-- the text stands in the bytes at a place
+abbrev pub IsTextAt : List ℕ → ℕ → List ℕ → Type 0
+IsTextAt bytes n [] = n ≤ length bytes
+IsTextAt bytes n (c ∷ cs) = (slice_index_or bytes n 0 ≡ c) × IsTextAt bytes (suc n) cs
+
+-- the bytes begin with the word, which is one of the logic's and has so many bytes
+abbrev pub IsFound : Logic → List ℕ → Word → ℕ → Type 0
+IsFound logic bytes w n = (is_word logic w ≡ true) × (n ≡ length (word_text w)) × IsTextAt bytes 0 (word_text w)
+
 -- the bytes begin with the text of the word, which is one of the logic's
 abbrev pub IsWordAt : Logic → List ℕ → Word → Type 0
 IsWordAt logic bytes w = ((more : List ℕ) × (bytes ≡ word_text w ++ more)) × IsOneOf w (words logic)
@@ -92,21 +99,6 @@ IsPlaceAt bytes k n =
     × (n ≡ line_length bytes)
     × (n ≤ length bytes)
 
--- how many bytes were taken
-abbrev pub size : Front → ℕ
-size (front.Line n) = n
-size (front.Inside n) = n
-
--- so many bytes are those up to the first end of a line, or lie in front of it
-abbrev pub IsSize : List ℕ → Front → Type 0
-IsSize bytes (front.Line n) = (n ≡ line_length bytes) × (n ≤ length bytes)
-IsSize bytes (front.Inside n) = (line_length bytes ≡ n + line_length (drop n bytes)) × (n ≤ length bytes)
-
--- the reader has taken the front of these bytes, which come at a place behind a state
-abbrev pub HasFront : (List ℕ → ℕ) → Logic → State → ℕ → List ℕ → Front → StepReader → Type 0
-HasFront number logic st place bytes (front.Line n) r = HasTaken number logic st place (take n bytes) r
-HasFront number logic st place bytes (front.Inside n) r = HasTaken number logic st place (take n bytes) r × (r.step ≡ None)
-
 -- the reader of a line has taken none of its bytes
 pub record IsLineBegin (r : LineReader) : Type 0 where
   pub mode : r.mode ≡ mode.TheVariants.InWord
@@ -116,4 +108,3 @@ pub record IsLineBegin (r : LineReader) : Type 0 where
 pub record IsBegin (r : StepReader) : Type 0 where
   pub phase : r.phase ≡ phase.TheVariants.Lines
   pub line : IsLineBegin r.line
-  pub none : r.step ≡ None

@@ -1,150 +1,199 @@
 //! Words and places at the front of some bytes.
-ghost use Rattle.std.specs.Prelude.{◌≡◌, ◌≤◌, ℕ, true, List, IfSome, length};
+ghost use Rattle.std.specs.Prelude.{◌≡◌, ◌≤◌, ℕ, List, IfSome, length};
 ghost use Rattle.polarised_formulas.specs.declared.logic.Logic.{Logic};
 ghost use Rattle.polarised_formulas.specs.declared.logic.Logic.TheVariants.{Lkf, Ljf};
 ghost use Rattle.explicit_form.specs.StepText.{word_text};
 ghost use Rattle.explicit_form.specs.Feeding.{line_length};
-ghost use Rattle.explicit_form.specs.Fronts.{IsWordAt, IsPlaceAt, is_word};
+ghost use Rattle.explicit_form.specs.Fronts.{IsFound, IsPlaceAt, IsWordAt};
 
-use crate::word::{Bare, Placed, Word, Written, word_bytes};
+use crate::word::{Bare, Placed, Word, Written};
 use polarised_formulas::logic::{Logic, Side};
 use polarised_formulas::plain::digits::{is_digit, with_digit};
 
-/// Of how many bytes of a line a reader sees what they are at once.
-#[derive(Clone, Copy, PartialEq, Eq, Debug)]
-pub(crate) enum Front {
-    /// Of all of them.
-    Line(usize),
-    /// Of some of them, maybe none.
-    Inside(usize),
-}
-
 /// The word of the logic that the bytes begin with, with its last byte, if any, and how many bytes it has.
+#[inline(always)]
 pub(crate) fn word_at(logic: Logic, bytes: &[u8]) -> Option<(Word, usize)>
     ensures { IfSome result (λ r. IsWordAt logic bytes.now r.0 × (r.1 ≡ length (word_text r.0))) }
 {
-    match likely_word(logic, bytes) {
-        Some(word) => if_begins(logic, bytes, word),
-        None => None,
-    }
-}
-
-/// The word and how many bytes it has, if the bytes begin with it.
-fn if_begins(logic: Logic, bytes: &[u8], word: Word) -> Option<(Word, usize)>
-    requires { is_word logic word ≡ true }
-    ensures { IfSome result (λ r. IsWordAt logic bytes.now r.0 × (r.1 ≡ length (word_text r.0))) }
-{
-    let text = word_bytes(word);
-    if bytes.starts_with(text) {
-        Some((word, text.len()))
-    } else {
-        None
-    }
-}
-
-/// The one word of the logic that the bytes may begin with, if any. Some bytes tell which.
-fn likely_word(logic: Logic, bytes: &[u8]) -> Option<Word>
-    ensures { IfSome result (λ w. is_word logic w ≡ true) }
-{
     match logic {
-        Logic::Lkf => likely_lkf_word(bytes),
-        Logic::Ljf => likely_ljf_word(bytes),
+        Logic::Lkf => lkf_word(bytes),
+        Logic::Ljf => ljf_word(bytes),
     }
 }
 
-fn likely_lkf_word(bytes: &[u8]) -> Option<Word>
-    ensures { IfSome result (λ w. is_word Lkf w ≡ true) }
+#[inline(always)]
+fn lkf_word(bytes: &[u8]) -> Option<(Word, usize)>
+    ensures { IfSome result (λ r. IsFound Lkf bytes.now r.0 r.1) }
 {
     match bytes {
-        [b's', b't', ..] => Some(Word::Bare(Bare::Store)),
-        [b's', ..] => Some(Word::Written(Written::Exists)),
-        [b'o', _, b'-', ..] => Some(Word::Bare(Bare::OrN)),
-        [b'o', _, _, _, b'l', ..] => Some(Word::Bare(Bare::OrP(Side::Left))),
-        [b'o', ..] => Some(Word::Bare(Bare::OrP(Side::Right))),
-        [b'a', b'l', ..] => Some(Word::Bare(Bare::Every)),
-        [b'a', _, _, b'-', ..] => Some(Word::Bare(Bare::AndN)),
-        [b'a', ..] => Some(Word::Bare(Bare::AndP)),
-        [b't', _, b'-', ..] => Some(Word::Bare(Bare::TrueN)),
-        [b't', ..] => Some(Word::Bare(Bare::TrueP)),
-        [b'd', ..] => Some(Word::Placed(Placed::Decide)),
-        [b'i', ..] => Some(Word::Placed(Placed::Init)),
-        [b'r', ..] => Some(Word::Bare(Bare::Release)),
-        [b'f', ..] => Some(Word::Bare(Bare::FalseN)),
-        [b'c', ..] => Some(Word::Written(Written::Cut)),
-        [b'e', ..] => Some(Word::End),
+        [b's', ..] => s_word(bytes),
+        [b'd', ..] => d_word(bytes),
+        [b'o', ..] => o_word(bytes),
+        [b'a', ..] => a_word(bytes),
+        [b't', ..] => t_word(bytes),
+        [b'r', ..] => r_word(bytes),
+        _ => other_lkf_word(bytes),
+    }
+}
+
+#[inline(always)]
+fn s_word(bytes: &[u8]) -> Option<(Word, usize)>
+    ensures { IfSome result (λ r. IsFound Lkf bytes.now r.0 r.1) }
+{
+    match bytes {
+        [b's', b't', b'o', b'r', b'e', b'\n', ..] => Some((Word::Bare(Bare::Store), 6)),
+        [b's', b'o', b'm', b'e', b' ', ..] => Some((Word::Written(Written::Exists), 5)),
         _ => None,
     }
 }
 
-fn likely_ljf_word(bytes: &[u8]) -> Option<Word>
-    ensures { IfSome result (λ w. is_word Ljf w ≡ true) }
+#[inline(always)]
+fn d_word(bytes: &[u8]) -> Option<(Word, usize)>
+    ensures { IfSome result (λ r. IsFound Lkf bytes.now r.0 r.1) }
 {
     match bytes {
-        [b'l', b'-', ..] => Some(likely_l_word(bytes)),
-        [b'r', b'-', ..] => Some(likely_r_word(bytes)),
-        [b'l', b'f', ..] => Some(likely_lf_word(bytes)),
-        [b'r', b'f', ..] => Some(likely_rf_word(bytes)),
-        [b'd', _, _, _, _, _, _, b'l', ..] => Some(Word::Placed(Placed::DecideL)),
-        [b'd', ..] => Some(Word::Bare(Bare::DecideR)),
-        [b'c', ..] => Some(Word::Written(Written::Cut)),
-        [b'e', ..] => Some(Word::End),
+        [b'd', b'e', b'c', b'i', b'd', b'e', b' ', ..] => Some((Word::Placed(Placed::Decide), 7)),
         _ => None,
     }
 }
 
-/// Of the words that begin with `l-`.
-fn likely_l_word(bytes: &[u8]) -> Word
-    ensures { is_word Ljf result ≡ true }
+#[inline(always)]
+fn o_word(bytes: &[u8]) -> Option<(Word, usize)>
+    ensures { IfSome result (λ r. IsFound Lkf bytes.now r.0 r.1) }
 {
     match bytes {
-        [_, _, b't', ..] => Word::Bare(Bare::LTrue),
-        [_, _, b'f', ..] => Word::Bare(Bare::LFalse),
-        [_, _, b'a', ..] => Word::Bare(Bare::LAnd),
-        [_, _, b'o', ..] => Word::Bare(Bare::LOr),
-        [_, _, _, b'o', ..] => Word::Bare(Bare::LExists),
-        _ => Word::Bare(Bare::LStore),
+        [b'o', b'r', b'-', b'\n', ..] => Some((Word::Bare(Bare::OrN), 4)),
+        [b'o', b'r', b'+', b' ', b'l', b'e', b'f', b't', b'\n', ..] => Some((Word::Bare(Bare::OrP(Side::Left)), 9)),
+        [b'o', b'r', b'+', b' ', b'r', b'i', b'g', b'h', b't', b'\n', ..] => Some((Word::Bare(Bare::OrP(Side::Right)), 10)),
+        _ => None,
     }
 }
 
-/// Of the words that begin with `r-`.
-fn likely_r_word(bytes: &[u8]) -> Word
-    ensures { is_word Ljf result ≡ true }
+#[inline(always)]
+fn a_word(bytes: &[u8]) -> Option<(Word, usize)>
+    ensures { IfSome result (λ r. IsFound Lkf bytes.now r.0 r.1) }
 {
     match bytes {
-        [_, _, b't', ..] => Word::Bare(Bare::RTrue),
-        [_, _, b'i', ..] => Word::Bare(Bare::RImp),
-        [_, _, b's', ..] => Word::Bare(Bare::RStore),
-        [_, _, _, b'n', ..] => Word::Bare(Bare::RAnd),
-        _ => Word::Bare(Bare::REvery),
+        [b'a', b'l', b'l', b'\n', ..] => Some((Word::Bare(Bare::Every), 4)),
+        [b'a', b'n', b'd', b'-', b'\n', ..] => Some((Word::Bare(Bare::AndN), 5)),
+        [b'a', b'n', b'd', b'+', b'\n', ..] => Some((Word::Bare(Bare::AndP), 5)),
+        _ => None,
     }
 }
 
-/// Of the words that begin with `lf-`.
-fn likely_lf_word(bytes: &[u8]) -> Word
-    ensures { is_word Ljf result ≡ true }
+#[inline(always)]
+fn t_word(bytes: &[u8]) -> Option<(Word, usize)>
+    ensures { IfSome result (λ r. IsFound Lkf bytes.now r.0 r.1) }
 {
     match bytes {
-        [_, _, _, _, b'n', _, _, b'l', ..] => Word::Bare(Bare::FocLAnd(Side::Left)),
-        [_, _, _, b'a', b'n', ..] => Word::Bare(Bare::FocLAnd(Side::Right)),
-        [_, _, _, b'a', ..] => Word::Written(Written::FocLEvery),
-        [_, _, _, _, b'm', ..] => Word::Bare(Bare::FocLImp),
-        [_, _, _, b'i', ..] => Word::Bare(Bare::FocLInit),
-        _ => Word::Bare(Bare::FocLRelease),
+        [b't', b't', b'-', b'\n', ..] => Some((Word::Bare(Bare::TrueN), 4)),
+        [b't', b't', b'+', b'\n', ..] => Some((Word::Bare(Bare::TrueP), 4)),
+        _ => None,
     }
 }
 
-/// Of the words that begin with `rf-`.
-fn likely_rf_word(bytes: &[u8]) -> Word
-    ensures { is_word Ljf result ≡ true }
+#[inline(always)]
+fn r_word(bytes: &[u8]) -> Option<(Word, usize)>
+    ensures { IfSome result (λ r. IsFound Lkf bytes.now r.0 r.1) }
 {
     match bytes {
-        [_, _, _, b't', ..] => Word::Bare(Bare::FocRTrue),
-        [_, _, _, b'a', ..] => Word::Bare(Bare::FocRAnd),
-        [_, _, _, b'o', _, _, b'l', ..] => Word::Bare(Bare::FocROr(Side::Left)),
-        [_, _, _, b'o', ..] => Word::Bare(Bare::FocROr(Side::Right)),
-        [_, _, _, b's', ..] => Word::Written(Written::FocRExists),
-        [_, _, _, b'i', ..] => Word::Placed(Placed::FocRInit),
-        _ => Word::Bare(Bare::FocRRelease),
+        [b'r', b'e', b'l', b'e', b'a', b's', b'e', b'\n', ..] => Some((Word::Bare(Bare::Release), 8)),
+        _ => None,
+    }
+}
+
+/// Of those with another first byte than the words above.
+#[inline(always)]
+fn other_lkf_word(bytes: &[u8]) -> Option<(Word, usize)>
+    ensures { IfSome result (λ r. IsFound Lkf bytes.now r.0 r.1) }
+{
+    match bytes {
+        [b'i', b'n', b'i', b't', b' ', ..] => Some((Word::Placed(Placed::Init), 5)),
+        [b'f', b'f', b'-', b'\n', ..] => Some((Word::Bare(Bare::FalseN), 4)),
+        [b'c', b'u', b't', b' ', ..] => Some((Word::Written(Written::Cut), 4)),
+        [b'e', b'n', b'd', b'\n', ..] => Some((Word::End, 4)),
+        _ => None,
+    }
+}
+
+#[inline(never)]
+fn ljf_word(bytes: &[u8]) -> Option<(Word, usize)>
+    ensures { IfSome result (λ r. IsFound Ljf bytes.now r.0 r.1) }
+{
+    match bytes {
+        [b'l', b'-', ..] => left_word(bytes),
+        [b'r', b'-', ..] => right_word(bytes),
+        [b'l', ..] => left_focus_word(bytes),
+        [b'r', ..] => right_focus_word(bytes),
+        _ => other_ljf_word(bytes),
+    }
+}
+
+fn left_word(bytes: &[u8]) -> Option<(Word, usize)>
+    ensures { IfSome result (λ r. IsFound Ljf bytes.now r.0 r.1) }
+{
+    match bytes {
+        [b'l', b'-', b't', b't', b'\n', ..] => Some((Word::Bare(Bare::LTrue), 5)),
+        [b'l', b'-', b'f', b'f', b'\n', ..] => Some((Word::Bare(Bare::LFalse), 5)),
+        [b'l', b'-', b'a', b'n', b'd', b'\n', ..] => Some((Word::Bare(Bare::LAnd), 6)),
+        [b'l', b'-', b'o', b'r', b'\n', ..] => Some((Word::Bare(Bare::LOr), 5)),
+        [b'l', b'-', b's', b'o', b'm', b'e', b'\n', ..] => Some((Word::Bare(Bare::LExists), 7)),
+        [b'l', b'-', b's', b't', b'o', b'r', b'e', b'\n', ..] => Some((Word::Bare(Bare::LStore), 8)),
+        _ => None,
+    }
+}
+
+fn right_word(bytes: &[u8]) -> Option<(Word, usize)>
+    ensures { IfSome result (λ r. IsFound Ljf bytes.now r.0 r.1) }
+{
+    match bytes {
+        [b'r', b'-', b't', b't', b'\n', ..] => Some((Word::Bare(Bare::RTrue), 5)),
+        [b'r', b'-', b'a', b'n', b'd', b'\n', ..] => Some((Word::Bare(Bare::RAnd), 6)),
+        [b'r', b'-', b'i', b'm', b'p', b'\n', ..] => Some((Word::Bare(Bare::RImp), 6)),
+        [b'r', b'-', b'a', b'l', b'l', b'\n', ..] => Some((Word::Bare(Bare::REvery), 6)),
+        [b'r', b'-', b's', b't', b'o', b'r', b'e', b'\n', ..] => Some((Word::Bare(Bare::RStore), 8)),
+        _ => None,
+    }
+}
+
+fn left_focus_word(bytes: &[u8]) -> Option<(Word, usize)>
+    ensures { IfSome result (λ r. IsFound Ljf bytes.now r.0 r.1) }
+{
+    match bytes {
+        [b'l', b'f', b'-', b'a', b'n', b'd', b' ', b'l', b'e', b'f', b't', b'\n', ..] => Some((Word::Bare(Bare::FocLAnd(Side::Left)), 12)),
+        [b'l', b'f', b'-', b'a', b'n', b'd', b' ', b'r', b'i', b'g', b'h', b't', b'\n', ..] => Some((Word::Bare(Bare::FocLAnd(Side::Right)), 13)),
+        [b'l', b'f', b'-', b'i', b'm', b'p', b'\n', ..] => Some((Word::Bare(Bare::FocLImp), 7)),
+        [b'l', b'f', b'-', b'a', b'l', b'l', b' ', ..] => Some((Word::Written(Written::FocLEvery), 7)),
+        [b'l', b'f', b'-', b'i', b'n', b'i', b't', b'\n', ..] => Some((Word::Bare(Bare::FocLInit), 8)),
+        [b'l', b'f', b'-', b'r', b'e', b'l', b'e', b'a', b's', b'e', b'\n', ..] => Some((Word::Bare(Bare::FocLRelease), 11)),
+        _ => None,
+    }
+}
+
+fn right_focus_word(bytes: &[u8]) -> Option<(Word, usize)>
+    ensures { IfSome result (λ r. IsFound Ljf bytes.now r.0 r.1) }
+{
+    match bytes {
+        [b'r', b'f', b'-', b't', b't', b'\n', ..] => Some((Word::Bare(Bare::FocRTrue), 6)),
+        [b'r', b'f', b'-', b'a', b'n', b'd', b'\n', ..] => Some((Word::Bare(Bare::FocRAnd), 7)),
+        [b'r', b'f', b'-', b'o', b'r', b' ', b'l', b'e', b'f', b't', b'\n', ..] => Some((Word::Bare(Bare::FocROr(Side::Left)), 11)),
+        [b'r', b'f', b'-', b'o', b'r', b' ', b'r', b'i', b'g', b'h', b't', b'\n', ..] => Some((Word::Bare(Bare::FocROr(Side::Right)), 12)),
+        [b'r', b'f', b'-', b's', b'o', b'm', b'e', b' ', ..] => Some((Word::Written(Written::FocRExists), 8)),
+        [b'r', b'f', b'-', b'i', b'n', b'i', b't', b' ', ..] => Some((Word::Placed(Placed::FocRInit), 8)),
+        [b'r', b'f', b'-', b'r', b'e', b'l', b'e', b'a', b's', b'e', b'\n', ..] => Some((Word::Bare(Bare::FocRRelease), 11)),
+        _ => None,
+    }
+}
+
+fn other_ljf_word(bytes: &[u8]) -> Option<(Word, usize)>
+    ensures { IfSome result (λ r. IsFound Ljf bytes.now r.0 r.1) }
+{
+    match bytes {
+        [b'd', b'e', b'c', b'i', b'd', b'e', b'-', b'l', b' ', ..] => Some((Word::Placed(Placed::DecideL), 9)),
+        [b'd', b'e', b'c', b'i', b'd', b'e', b'-', b'r', b'\n', ..] => Some((Word::Bare(Bare::DecideR), 9)),
+        [b'c', b'u', b't', b' ', ..] => Some((Word::Written(Written::Cut), 4)),
+        [b'e', b'n', b'd', b'\n', ..] => Some((Word::End, 4)),
+        _ => None,
     }
 }
 

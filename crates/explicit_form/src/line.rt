@@ -80,17 +80,11 @@ impl LineReader {
     }
 
     /// Whether no byte of the line was taken.
+    #[inline(always)]
     pub(crate) fn is_at_begin(&self) -> bool
         ensures { IsTrue result → IsLineBegin self.now }
     {
         self.mode == Mode::InWord && self.word.is_empty()
-    }
-
-    /// Goes on behind a word with a place.
-    pub(crate) fn begin_place(&mut self, placed: Placed)
-        ensures { IsLineBegin self.old → Stands self.old.logic (at_place placed) self.new }
-    {
-        self.mode = Mode::AtPlace(placed);
     }
 
     /// The word behind which more of a term or a formula comes, if any.

@@ -11,10 +11,10 @@ ghost use Rattle.explicit_form.specs.StepReading.{Line, Next, State, heading, re
 ghost use Rattle.explicit_form.specs.StepLimits.{byte_fault, fault};
 ghost use Rattle.explicit_form.specs.declared.word.Word.TheVariants as word;
 ghost use Rattle.explicit_form.specs.StepText.{word_text};
-ghost use Rattle.explicit_form.specs.Fronts.{HasFront, IsBegin, IsSize, IsWordAt, size};
+ghost use Rattle.explicit_form.specs.Fronts.{IsBegin, IsWordAt};
 ghost use Rattle.explicit_form.specs.Feeding.{IsAt, IsTaken, IsLine, IsLineWord, StandsBehind, HasRead, IsFed, IsFinished, is_whole, line_in, line_length, step_of, step_with};
 
-use crate::front::{Front, line_length, place_at, word_at};
+use crate::front::{line_length, place_at, word_at};
 use crate::line::{LineReader, Taken, answer_in, push};
 use crate::word::{Placed, Word, Written, bare_step, placed_step};
 use crate::words::{header_line, other_header};
@@ -140,6 +140,7 @@ impl StepReader {
     }
 
     /// Takes bytes where nothing was told of the earlier ones.
+    #[inline(always)]
     fn feed_line(&mut self, names: &mut Names, bytes: &[u8]) -> Result<usize, StepFault>
         ensures grows { Grows names.old names.new }
         ensures only { (logic : Logic) (before : List ℕ) → AreDifferent names.new → StandsBehind logic names.old before self.old → AddsOnly (IsPartIn before (line_in bytes.now)) names.old names.new }
@@ -150,121 +151,141 @@ impl StepReader {
         ensures stays { (fault : StepFault) → result ≡ Err fault → self.new.phase ≡ Phase.Faulty fault }
         ensures none { (fault : StepFault) → result ≡ Err fault → self.new.step ≡ None }
     {
-        self.step = None;
-        let front = self.take_front(bytes);
-        match front {
-            Front::Line(n) => Ok(n),
-            Front::Inside(n) => {
-                let (_, rest) = bytes.split_at(n);
-                match self.feed_rest(names, rest) {
-                    Ok(more) => Ok(n + more),
-                    Err(fault) => Err(fault),
-                }
-            }
-        }
-    }
-
-    /// Takes what is seen of a line at once.
-    fn take_front(&mut self, bytes: &[u8]) -> Front
-        requires { self.old.step ≡ None }
-        ensures taken { (number : List ℕ → ℕ) (logic : Logic) (st : State) → IsAt logic st self.old
-            → HasFront number logic st self.old.at bytes.now result self.new }
-        ensures size { IsSize bytes.now result }
-        ensures none { (n : ℕ) → result ≡ Front.Inside n → self.new.step ≡ None }
-        ensures place { self.new.at ≡ self.old.at + size result }
-    {
-        if !self.is_at_begin() {
-            return Front::Inside(0);
-        }
-        if !self.has_room(bytes) {
-            return Front::Inside(0);
+        if !self.is_at_begin(bytes) {
+            return self.feed_rest(names, bytes);
         }
         match word_at(self.line.logic, bytes) {
-            Some((word, n)) => self.take_word(word, n, bytes),
-            None => Front::Inside(0),
+            Some((word, n)) => self.feed_word(names, word, n, bytes),
+            None => self.feed_bytes(names, bytes),
         }
     }
 
-    /// Whether no byte of a line was taken.
-    fn is_at_begin(&self) -> bool
-        requires { self.now.step ≡ None }
-        ensures { IsTrue result → IsBegin self.now }
+    /// Whether no byte of a line was taken, and all the bytes lie below the limit.
+    #[inline(always)]
+    fn is_at_begin(&self, bytes: &[u8]) -> bool
+        ensures begin { IsTrue result → IsBegin self.now }
+        ensures room { IsTrue result → self.now.at + length bytes.now ≤ 67108864 }
     {
-        self.phase == Phase::Lines && self.line.is_at_begin()
+        self.phase == Phase::Lines && self.line.is_at_begin() && self.has_room(bytes)
     }
 
-    /// Takes a word of so many bytes that the bytes begin with, and a place behind it that ends in them.
-    fn take_word(&mut self, word: Word, n: usize, bytes: &[u8]) -> Front
+    /// Takes bytes that begin with a word of so many bytes.
+    #[inline(always)]
+    fn feed_word(
+        &mut self,
+        names: &mut Names,
+        word: Word,
+        n: usize,
+        bytes: &[u8],
+    ) -> Result<usize, StepFault>
         requires begin { IsBegin self.old }
         requires word { IsWordAt self.old.line.logic bytes.now word }
         requires length { n ≡ length (word_text word) }
         requires room { self.old.at + length bytes.now ≤ 67108864 }
-        ensures taken { (number : List ℕ → ℕ) (logic : Logic) (st : State) → IsAt logic st self.old
-            → HasFront number logic st self.old.at bytes.now result self.new }
-        ensures size { IsSize bytes.now result }
-        ensures none { (n : ℕ) → result ≡ Front.Inside n → self.new.step ≡ None }
-        ensures place { self.new.at ≡ self.old.at + size result }
+        ensures grows { Grows names.old names.new }
+        ensures only { (logic : Logic) (before : List ℕ) → AreDifferent names.new → StandsBehind logic names.old before self.old → AddsOnly (IsPartIn before (line_in bytes.now)) names.old names.new }
+        ensures line { (number : List ℕ → ℕ) (logic : Logic) (st : State) → Agrees number names.new → IsAt logic st self.old
+            → IsLine number logic st self.old.at bytes.now result self.new }
+        ensures count { IfOk result (λ n. n ≡ line_length bytes.now) }
+        ensures place { IfOk result (λ n. self.new.at ≡ self.old.at + n) }
+        ensures stays { (fault : StepFault) → result ≡ Err fault → self.new.phase ≡ Phase.Faulty fault }
+        ensures none { (fault : StepFault) → result ≡ Err fault → self.new.step ≡ None }
     {
         match word {
             Word::Bare(bare) => {
                 self.at += n;
                 self.step = Some(bare_step(bare));
-                Front::Line(n)
+                Ok(n)
             }
-            Word::Placed(placed) => self.take_place(placed, n, bytes),
-            Word::Written(written) => {
-                self.at += n;
-                self.line.begin_plain(written);
-                Front::Inside(n)
-            }
+            Word::Placed(placed) => self.feed_place(names, placed, n, bytes),
+            Word::Written(written) => self.feed_written(names, written, n, bytes),
             Word::End => {
                 self.at += n;
+                self.step = None;
                 self.phase = Phase::Ended;
-                Front::Line(n)
+                Ok(n)
             }
         }
     }
 
-    /// Takes a word of so many bytes and, if it ends in the bytes, the place behind it.
-    fn take_place(&mut self, placed: Placed, n: usize, bytes: &[u8]) -> Front
+    /// Takes bytes that begin with a word of so many bytes, behind which a place comes.
+    #[inline(always)]
+    fn feed_place(
+        &mut self,
+        names: &mut Names,
+        placed: Placed,
+        n: usize,
+        bytes: &[u8],
+    ) -> Result<usize, StepFault>
         requires begin { IsBegin self.old }
         requires word { IsWordAt self.old.line.logic bytes.now (word.Placed placed) }
         requires length { n ≡ length (word_text (word.Placed placed)) }
         requires room { self.old.at + length bytes.now ≤ 67108864 }
-        ensures taken { (number : List ℕ → ℕ) (logic : Logic) (st : State) → IsAt logic st self.old
-            → HasFront number logic st self.old.at bytes.now result self.new }
-        ensures size { IsSize bytes.now result }
-        ensures none { (n : ℕ) → result ≡ Front.Inside n → self.new.step ≡ None }
-        ensures place { self.new.at ≡ self.old.at + size result }
+        ensures grows { Grows names.old names.new }
+        ensures only { (logic : Logic) (before : List ℕ) → AreDifferent names.new → StandsBehind logic names.old before self.old → AddsOnly (IsPartIn before (line_in bytes.now)) names.old names.new }
+        ensures line { (number : List ℕ → ℕ) (logic : Logic) (st : State) → Agrees number names.new → IsAt logic st self.old
+            → IsLine number logic st self.old.at bytes.now result self.new }
+        ensures count { IfOk result (λ n. n ≡ line_length bytes.now) }
+        ensures place { IfOk result (λ n. self.new.at ≡ self.old.at + n) }
+        ensures stays { (fault : StepFault) → result ≡ Err fault → self.new.phase ≡ Phase.Faulty fault }
+        ensures none { (fault : StepFault) → result ≡ Err fault → self.new.step ≡ None }
     {
         let (_, rest) = bytes.split_at(n);
         match place_at(rest) {
             Some((place, more)) => {
                 self.at += n + more;
                 self.step = Some(placed_step(placed, u64::from(place)));
-                Front::Line(n + more)
+                Ok(n + more)
             }
-            None => {
-                self.at += n;
-                self.line.begin_place(placed);
-                Front::Inside(n)
-            }
+            None => self.feed_bytes(names, bytes),
         }
     }
 
-    /// Takes bytes behind those that were taken at once.
-    fn feed_rest(&mut self, names: &mut Names, bytes: &[u8]) -> Result<usize, StepFault>
-        requires none { self.old.step ≡ None }
+    /// Takes bytes that begin with a word of so many bytes, behind which a term or a formula comes.
+    #[inline(always)]
+    fn feed_written(
+        &mut self,
+        names: &mut Names,
+        written: Written,
+        n: usize,
+        bytes: &[u8],
+    ) -> Result<usize, StepFault>
+        requires begin { IsBegin self.old }
+        requires word { IsWordAt self.old.line.logic bytes.now (word.Written written) }
+        requires length { n ≡ length (word_text (word.Written written)) }
+        requires room { self.old.at + length bytes.now ≤ 67108864 }
         ensures grows { Grows names.old names.new }
         ensures only { (logic : Logic) (before : List ℕ) → AreDifferent names.new → StandsBehind logic names.old before self.old → AddsOnly (IsPartIn before (line_in bytes.now)) names.old names.new }
         ensures line { (number : List ℕ → ℕ) (logic : Logic) (st : State) → Agrees number names.new → IsAt logic st self.old
             → IsLine number logic st self.old.at bytes.now result self.new }
         ensures count { IfOk result (λ n. n ≡ line_length bytes.now) }
-        ensures within { IfOk result (λ n. n ≤ length bytes.now) }
         ensures place { IfOk result (λ n. self.new.at ≡ self.old.at + n) }
         ensures stays { (fault : StepFault) → result ≡ Err fault → self.new.phase ≡ Phase.Faulty fault }
         ensures none { (fault : StepFault) → result ≡ Err fault → self.new.step ≡ None }
     {
+        self.at += n;
+        self.step = None;
+        self.line.begin_plain(written);
+        let (_, rest) = bytes.split_at(n);
+        match self.feed_plain(names, written, rest) {
+            Ok(more) => Ok(n + more),
+            Err(fault) => Err(fault),
+        }
+    }
+
+    /// Takes bytes inside a line.
+    #[inline(never)]
+    fn feed_rest(&mut self, names: &mut Names, bytes: &[u8]) -> Result<usize, StepFault>
+        ensures grows { Grows names.old names.new }
+        ensures only { (logic : Logic) (before : List ℕ) → AreDifferent names.new → StandsBehind logic names.old before self.old → AddsOnly (IsPartIn before (line_in bytes.now)) names.old names.new }
+        ensures line { (number : List ℕ → ℕ) (logic : Logic) (st : State) → Agrees number names.new → IsAt logic st self.old
+            → IsLine number logic st self.old.at bytes.now result self.new }
+        ensures count { IfOk result (λ n. n ≡ line_length bytes.now) }
+        ensures place { IfOk result (λ n. self.new.at ≡ self.old.at + n) }
+        ensures stays { (fault : StepFault) → result ≡ Err fault → self.new.phase ≡ Phase.Faulty fault }
+        ensures none { (fault : StepFault) → result ≡ Err fault → self.new.step ≡ None }
+    {
+        self.step = None;
         if self.phase == Phase::Lines && self.has_room(bytes) {
             if let Some(written) = self.line.written() {
                 return self.feed_plain(names, written, bytes);
@@ -274,6 +295,7 @@ impl StepReader {
     }
 
     /// Whether all the bytes lie below the limit.
+    #[inline(always)]
     fn has_room(&self, bytes: &[u8]) -> bool
         ensures { IsTrue result → self.now.at + length bytes.now ≤ 67108864 }
     {
@@ -315,6 +337,7 @@ impl StepReader {
     }
 
     /// Takes bytes one by one.
+    #[inline(never)]
     fn feed_bytes(&mut self, names: &mut Names, bytes: &[u8]) -> Result<usize, StepFault>
         ensures grows { Grows names.old names.new }
         ensures only { (logic : Logic) (before : List ℕ) → AreDifferent names.new → StandsBehind logic names.old before self.old → AddsOnly (IsPartIn before (line_in bytes.now)) names.old names.new }
