@@ -20,7 +20,7 @@ use Rattle.explicit_form.specs.StepText.{word_text, words, IsOneOf}
 use Rattle.explicit_form.specs.StepReading.{bare_step, placed_step, in_word, at_place, in_place, in_plain, behind_word, State, heading, reading, ended, mistaken, stuck, start, settle, go, run}
 use Rattle.explicit_form.specs.StepLimits.{most_bytes, fault, AreUntold}
 use Rattle.explicit_form.specs.LineStanding.{Stands, plain_start}
-use Rattle.explicit_form.specs.Feeding.{IsAt, HasTaken, IsLine, StandsBehind, done_of, pushed, line_length, line_in}
+use Rattle.explicit_form.specs.Feeding.{IsAt, HasTaken, IsToldIn, IsLine, StandsBehind, done_of, pushed, line_length, line_in}
 use Rattle.explicit_form.specs.Fronts.{IsWordAt, IsPlaceAt, IsBegin, Leads}
 use Rattle.explicit_form.proofs.Fronts.{word-leads, leads-on, taken-led}
 use Rattle.explicit_form.proofs.ReaderFeeding.{run-append, AreUntold-append}
@@ -75,10 +75,10 @@ module _ (number : List ℕ → ℕ) (logic : Logic) (st : State) (bytes : List 
   bare-taken x b n new is found e p l s =
       word-front (word.Bare b) (subst (IsWordAt r.line.logic bytes) is found) n new (e ∙ ap (λ y. length (word_text y)) is) (p ∙ stood.0, subst (Stands logic (in_word [])) (sym l) stood.1) (ap (λ o. pushed o between.0) (sym s))
 
-  pub written-taken : (x : Word) (w : Written) (n : ℕ) (new : StepReader) → x ≡ word.Written w → IsWordAt r.line.logic bytes x → n ≡ length (word_text x) → new.phase ≡ r.phase → Stands r.line.logic (in_plain w (plain_start w)) new.line → new.step ≡ None
+  pub written-taken : (w : Written) (n : ℕ) (new : StepReader) → IsWordAt r.line.logic bytes (word.Written w) → n ≡ length (word_text (word.Written w)) → new.phase ≡ r.phase → Stands r.line.logic (in_plain w (plain_start w)) new.line → new.step ≡ None
       → HasTaken number logic st r.at (take n bytes) new
-  written-taken x w n new is found e p l s =
-      word-front (word.Written w) (subst (IsWordAt r.line.logic bytes) is found) n new (e ∙ ap (λ y. length (word_text y)) is) (by w (subst (λ g. Stands g (in_plain w (plain_start w)) new.line) stood.1.logic_is l)) (same w ∙ ap (λ o. pushed o between.0) (sym s))
+  written-taken w n new found e p l s =
+      word-front (word.Written w) found n new e (by w (subst (λ g. Stands g (in_plain w (plain_start w)) new.line) stood.1.logic_is l)) (same w ∙ ap (λ o. pushed o between.0) (sym s))
     where
       by : (v : Written) → Stands logic (in_plain v (plain_start v)) new.line → IsAt logic (settle between.0 (behind_word (word.Written v))) new
       by written.Exists h = (p ∙ stood.0, h)
@@ -102,47 +102,75 @@ module _ (number : List ℕ → ℕ) (logic : Logic) (st : State) (bytes : List 
       front-taken next (n + m) new within (subst (λ bs. Leads number logic (reading between.0 (in_word [])) bs next) (sym (take-add n m bytes)) both)
       (q ∙ stood.0, subst (Stands logic (in_word [])) (sym l) stood.1) (ap (λ o. pushed o between.0) (sym s))
 
--- what was taken at once, and the bytes behind it
-module _ (old middle : StepReader) (bytes : List ℕ) (n : ℕ) (place : middle.at ≡ old.at + n) (size : line_length bytes ≡ n + line_length (drop n bytes)) (within : n ≤ length bytes) where
-  first_line : line_in bytes ≡ take n bytes ++ line_in (drop n bytes)
-  first_line = ap (λ m. take m bytes) size ∙ take-add n (line_length (drop n bytes)) bytes
+-- the first line of bytes that begin with the word of a term or a formula goes on behind it
+written-line : (w : Written) (more : List ℕ) → line_length (word_text (word.Written w) ++ more) ≡ length (word_text (word.Written w)) + line_length (drop (length (word_text (word.Written w))) (word_text (word.Written w) ++ more))
+written-line written.Exists more = omega arith
+written-line written.FocLEvery more = omega arith
+written-line written.FocRExists more = omega arith
+written-line written.Cut more = omega arith
+
+-- a word, and the bytes of a term or a formula behind it
+module _ (old middle : StepReader) (w : Written) (n : ℕ) (bytes rest : List ℕ) (begin : IsBegin old) (found : IsWordAt old.line.logic bytes (word.Written w)) (n_is : n ≡ length (word_text (word.Written w)))
+    (room : old.at + length bytes ≤ most_bytes) (rest_is : rest ≡ drop n bytes) (line : Stands old.line.logic (in_plain w (plain_start w)) middle.line) (phase : middle.phase ≡ old.phase) (none : middle.step ≡ None) (place : middle.at ≡ old.at + n) where
+  size : line_length bytes ≡ n + line_length (drop n bytes)
+  size = subst (λ m. line_length bytes ≡ m + line_length (drop m bytes)) (sym n_is)
+      (subst (λ bs. line_length bs ≡ length (word_text (word.Written w)) + line_length (drop (length (word_text (word.Written w))) bs)) (sym found.0.1) (written-line w found.0.0))
+
+  within : n ≤ length bytes
+  within = let e = ap length found.0.1 in let l = length-append (word_text (word.Written w)) found.0.0 in omega arith
+
+  first_line : line_in bytes ≡ take n bytes ++ line_in rest
+  first_line = ap (λ m. take m bytes) size ∙ take-add n (line_length (drop n bytes)) bytes ∙ ap (λ bs. take n bytes ++ line_in bs) (sym rest_is)
 
   middle_at : middle.at ≡ old.at + length (take n bytes)
   middle_at = place ∙ ap (λ m. old.at + m) (sym (length-take-le n bytes within))
 
-  module _ (number : List ℕ → ℕ) (logic : Logic) (st : State) (taken : HasTaken number logic st old.at (take n bytes) middle × (middle.step ≡ None)) where
-    pub both-taken : (m : ℕ) (new : StepReader) → IsLine number logic (run number logic st (take n bytes)) middle.at (drop n bytes) (Ok m) new → HasTaken number logic st old.at (take (n + m) bytes) new
-    both-taken m new more =
-        let ran = run-append number logic st (take n bytes) (take m (drop n bytes)) in
-        let same : done_of (run number logic st (take n bytes)) ≡ done_of st = taken.0.step_is ∙ ap (λ o. pushed o (done_of st)) taken.1 in
-        subst (λ bs. HasTaken number logic st old.at bs new) (sym (take-add n m bytes)) (record {
-          where_is = subst (λ s. IsAt logic s new) (sym ran) more.where_is;
-          untold = AreUntold-append number logic (take n bytes) (take m (drop n bytes)) st old.at taken.0.untold
-              (subst (λ p. AreUntold number logic (run number logic st (take n bytes)) p (take m (drop n bytes))) middle_at more.untold);
-          step_is = ap done_of ran ∙ more.step_is ∙ ap (pushed new.step) same;
-        })
+  taken : (number : List ℕ → ℕ) (logic : Logic) (st : State) → IsAt logic st old → HasTaken number logic st old.at (take n bytes) middle
+  taken number logic st here = written-taken number logic st bytes old begin here room w n middle found n_is phase line none
 
-    pub told-behind : (f : StepFault) (new : StepReader) → IsLine number logic (run number logic st (take n bytes)) middle.at (drop n bytes) (Err f) new → IsLine number logic st old.at bytes (Err f) new
-    told-behind OutOfMemory new h = tt
-    told-behind (Refused x) new h =
-        let ran = run-append number logic st (take n bytes) h.front in
-        let at : middle.at + length h.front ≡ old.at + length (take n bytes ++ h.front) = let l = length-append (take n bytes) h.front in let m = middle_at in omega arith in
-        record {
-          front = take n bytes ++ h.front;
-          byte = h.byte;
-          more = h.more;
-          parts = append_assoc (take n bytes) h.front (h.byte ∷ h.more) ∙ ap (λ bs. take n bytes ++ bs) h.parts ∙ sym first_line;
-          untold = AreUntold-append number logic (take n bytes) h.front st old.at taken.0.untold
-              (subst (λ p. AreUntold number logic (run number logic st (take n bytes)) p h.front) middle_at h.untold);
-          told = ap (λ s. fault (old.at + length (take n bytes ++ h.front)) s (go number logic s h.byte)) ran
-              ∙ ap (λ p. fault p (run number logic (run number logic st (take n bytes)) h.front) (go number logic (run number logic (run number logic st (take n bytes)) h.front) h.byte)) (sym at) ∙ h.told;
-        }
+  -- how many bytes the first line has
+  pub both-counted : (m : ℕ) → m ≡ line_length rest → n + m ≡ line_length bytes
+  both-counted m e = ap (λ k. n + k) (e ∙ ap line_length rest_is) ∙ sym size
 
-  pub stands-middle : (logic : Logic) (names : List (List ℕ)) (before : List ℕ) → ((number : List ℕ → ℕ) (st : State) → IsAt logic st old → HasTaken number logic st old.at (take n bytes) middle × (middle.step ≡ None))
-      → StandsBehind logic names before old → StandsBehind logic names (before ++ take n bytes) middle
-  stands-middle logic names before taken stands number agrees =
-      subst (λ s. IsAt logic s middle) (sym (run-append number logic start before (take n bytes))) (taken number (run number logic start before) (stands number agrees)).0.where_is
+  pub both-taken : (number : List ℕ → ℕ) (logic : Logic) (st : State) → IsAt logic st old → (m : ℕ) (new : StepReader) → ((s : State) → IsAt logic s middle → IsLine number logic s middle.at rest (Ok m) new)
+      → HasTaken number logic st old.at (take (n + m) bytes) new
+  both-taken number logic st here m new answered =
+      let t = taken number logic st here in
+      let more : HasTaken number logic (run number logic st (take n bytes)) middle.at (take m rest) new = answered (run number logic st (take n bytes)) t.where_is in
+      let ran = run-append number logic st (take n bytes) (take m rest) in
+      let same : done_of (run number logic st (take n bytes)) ≡ done_of st = t.step_is ∙ ap (λ o. pushed o (done_of st)) none in
+      subst (λ bs. HasTaken number logic st old.at bs new) (ap (λ bs. take n bytes ++ take m bs) rest_is ∙ sym (take-add n m bytes)) (record {
+        where_is = subst (λ s. IsAt logic s new) (sym ran) more.where_is;
+        untold = AreUntold-append number logic (take n bytes) (take m rest) st old.at t.untold
+            (subst (λ p. AreUntold number logic (run number logic st (take n bytes)) p (take m rest)) middle_at more.untold);
+        step_is = ap done_of ran ∙ more.step_is ∙ ap (pushed new.step) same;
+      })
 
-  pub adds-behind : (before : List ℕ) (names now : List (List ℕ)) → AddsOnly (IsPartIn (before ++ take n bytes) (line_in (drop n bytes))) names now → AddsOnly (IsPartIn before (line_in bytes)) names now
-  adds-behind before names now = AddsOnly-wider (IsPartIn (before ++ take n bytes) (line_in (drop n bytes))) (IsPartIn before (line_in bytes)) names now
+  pub told-behind : (number : List ℕ → ℕ) (logic : Logic) (st : State) → IsAt logic st old → (f : StepFault) (new : StepReader) → ((s : State) → IsAt logic s middle → IsLine number logic s middle.at rest (Err f) new)
+      → IsLine number logic st old.at bytes (Err f) new
+  told-behind number logic st here OutOfMemory new answered = tt
+  told-behind number logic st here (Refused x) new answered =
+      let t = taken number logic st here in
+      let h : IsToldIn number logic (run number logic st (take n bytes)) middle.at (line_in rest) x = answered (run number logic st (take n bytes)) t.where_is in
+      let ran = run-append number logic st (take n bytes) h.front in
+      let at : middle.at + length h.front ≡ old.at + length (take n bytes ++ h.front) = let l = length-append (take n bytes) h.front in let m = middle_at in omega arith in
+      record {
+        front = take n bytes ++ h.front;
+        byte = h.byte;
+        more = h.more;
+        parts = append_assoc (take n bytes) h.front (h.byte ∷ h.more) ∙ ap (λ bs. take n bytes ++ bs) h.parts ∙ sym first_line;
+        untold = AreUntold-append number logic (take n bytes) h.front st old.at t.untold
+            (subst (λ p. AreUntold number logic (run number logic st (take n bytes)) p h.front) middle_at h.untold);
+        told = ap (λ s. fault (old.at + length (take n bytes ++ h.front)) s (go number logic s h.byte)) ran
+            ∙ ap (λ p. fault p (run number logic (run number logic st (take n bytes)) h.front) (go number logic (run number logic (run number logic st (take n bytes)) h.front) h.byte)) (sym at) ∙ h.told;
+      }
+
+  -- what is added is told of the bytes in front and of those of the line
+  pub adds-behind : (logic : Logic) (before : List ℕ) (names now : List (List ℕ)) → StandsBehind logic names before old
+      → ((front : List ℕ) → StandsBehind logic names front middle → AddsOnly (IsPartIn front (line_in rest)) names now) → AddsOnly (IsPartIn before (line_in bytes)) names now
+  adds-behind logic before names now stands adds =
+      let behind : StandsBehind logic names (before ++ take n bytes) middle = λ number agrees.
+          subst (λ s. IsAt logic s middle) (sym (run-append number logic start before (take n bytes))) (taken number logic (run number logic start before) (stands number agrees)).where_is in
+      AddsOnly-wider (IsPartIn (before ++ take n bytes) (line_in rest)) (IsPartIn before (line_in bytes)) names now
       (λ text w. (take n bytes ++ w.0, w.1, (append_assoc (take n bytes) w.0 w.1 ∙ ap (λ bs. take n bytes ++ bs) w.2.0 ∙ sym first_line, (w.2.1.0, w.2.1.1 ∙ append_assoc before (take n bytes) w.0))))
+      (adds (before ++ take n bytes) behind)

@@ -211,6 +211,7 @@ pub(crate) fn line_length(bytes: &[u8]) -> usize
 }
 
 /// The number that the bytes are up to the first end of a line, and how many bytes these are.
+#[inline(always)]
 pub(crate) fn place_at(bytes: &[u8]) -> Option<(u32, usize)>
     ensures { IfSome result (λ r. IsPlaceAt bytes.now r.0 r.1) }
 {
@@ -221,13 +222,12 @@ pub(crate) fn place_at(bytes: &[u8]) -> Option<(u32, usize)>
     let mut n = 1;
     while n < bytes.len() {
         let b = bytes[n];
+        if b == b'\n' {
+            return Some((place, n + 1));
+        }
         match with_digit(place, b) {
             Some(grown) => place = grown,
-            None => return if b == b'\n' {
-                Some((place, n + 1))
-            } else {
-                None
-            },
+            None => return None,
         }
         n += 1;
     }

@@ -149,6 +149,7 @@ impl LineReader {
     }
 
     /// Begins the term or formula behind a word.
+    #[inline(always)]
     pub(crate) fn begin_plain(&mut self, written: Written)
         ensures { self.old.word.items ≡ [] → Stands self.old.logic (in_plain written (plain_start written)) self.new }
     {
@@ -209,6 +210,7 @@ impl LineReader {
 }
 
 /// What the answer of the reader of a term or a formula means in a line.
+#[inline(always)]
 pub(crate) fn answer_in(
     written: Written,
     answer: Result<Progress, TokenRefusal>,
@@ -224,6 +226,7 @@ pub(crate) fn answer_in(
 }
 
 /// Tells that a line is whole, if there is a step of it.
+#[inline(always)]
 fn whole(step: Option<Step>) -> Result<Taken, TokenRefusal>
     ensures some { (s : Step) → step ≡ Some s → result ≡ Ok (Taken.Whole s) }
     ensures none { step ≡ None → result ≡ Err (TokenRefusal.Refused Code.Unexpected) }
@@ -235,6 +238,7 @@ fn whole(step: Option<Step>) -> Result<Taken, TokenRefusal>
 }
 
 /// The step with this term.
+#[inline(always)]
 fn step_with_term(written: Written, term: TermBuf) -> Option<Step>
     ensures { stepped result ≡ with_term written term }
 {
@@ -247,6 +251,7 @@ fn step_with_term(written: Written, term: TermBuf) -> Option<Step>
 }
 
 /// The step with this formula.
+#[inline(always)]
 fn step_with_formula(written: Written, formula: Formula) -> Option<Step>
     ensures { stepped result ≡ with_formula written formula }
 {

@@ -285,9 +285,9 @@ impl StepReader {
         ensures stays { (fault : StepFault) → result ≡ Err fault → self.new.phase ≡ Phase.Faulty fault }
         ensures none { (fault : StepFault) → result ≡ Err fault → self.new.step ≡ None }
     {
-        self.step = None;
         if self.phase == Phase::Lines && self.has_room(bytes) {
             if let Some(written) = self.line.written() {
+                self.step = None;
                 return self.feed_plain(names, written, bytes);
             }
         }
@@ -451,6 +451,7 @@ impl StepReader {
     }
 
     /// Takes what the reader of a line answers to the byte at a place.
+    #[inline(always)]
     fn take_answer(
         &mut self,
         answer: Result<Taken, TokenRefusal>,

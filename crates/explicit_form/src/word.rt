@@ -235,6 +235,7 @@ fn bare_line(bare: Bare) -> &'static [u8]
 }
 
 /// The step whose line is a word alone.
+#[inline(always)]
 pub fn bare_step(bare: Bare) -> Step
     ensures { result ≡ bare_step bare }
 {
@@ -273,6 +274,7 @@ pub fn bare_step(bare: Bare) -> Step
 }
 
 /// The step of a word with its place.
+#[inline(always)]
 pub fn placed_step(placed: Placed, place: u64) -> Step
     ensures { result ≡ placed_step placed place }
 {
