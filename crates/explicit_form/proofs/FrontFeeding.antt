@@ -170,7 +170,7 @@ module _ (old middle : StepReader) (w : Written) (n : ℕ) (bytes rest : List �
       → ((front : List ℕ) → StandsBehind logic names front middle → AddsOnly (IsPartIn front (line_in rest)) names now) → AddsOnly (IsPartIn before (line_in bytes)) names now
   adds-behind logic before names now stands adds =
       let behind : StandsBehind logic names (before ++ take n bytes) middle = λ number agrees.
-          subst (λ s. IsAt logic s middle) (sym (run-append number logic start before (take n bytes))) (taken number logic (run number logic start before) (stands number agrees)).where_is in
+      subst (λ s. IsAt logic s middle) (sym (run-append number logic start before (take n bytes))) (taken number logic (run number logic start before) (stands number agrees)).where_is in
       AddsOnly-wider (IsPartIn (before ++ take n bytes) (line_in rest)) (IsPartIn before (line_in bytes)) names now
       (λ text w. (take n bytes ++ w.0, w.1, (append_assoc (take n bytes) w.0 w.1 ∙ ap (λ bs. take n bytes ++ bs) w.2.0 ∙ sym first_line, (w.2.1.0, w.2.1.1 ∙ append_assoc before (take n bytes) w.0))))
       (adds (before ++ take n bytes) behind)

@@ -1,15 +1,15 @@
 -- Steps that are the same by their names have the same text, each by its own table, and their names stand in the tables.
-use Rattle.std.proofs.Common.{◌≡◌, ℕ, ◌<◌, List, [], ◌∷◌, ◌++◌, refl, ap, ap₂}
+use Rattle.std.proofs.Common.{◌≡◌, ℕ, ◌<◌, List, ◌∷◌, ◌++◌, refl, ap, ap₂}
 use Rattle.std.specs.Fmt.{decimal}
-use Rattle.fpc_terms.specs.Same.{SameTerm, SameList, same_nil, same_cons}
+use Rattle.fpc_terms.specs.Same.{SameList, same_nil, same_cons}
 use Rattle.fpc_terms.proofs.SameTexts.{term_before-same, term_named}
 use Rattle.polarised_formulas.specs.declared.logic.Logic.{Logic}
 use Rattle.polarised_formulas.specs.declared.step.Step.{Step}
 use Rattle.polarised_formulas.specs.declared.step.Step.TheVariants as step
-use Rattle.polarised_formulas.specs.Same.{SameFormula, IsNameless, SameStep, same_exists_step, same_left_every, same_right_exists, same_cut, same_nameless}
+use Rattle.polarised_formulas.specs.Same.{IsNameless, SameStep, same_exists_step, same_left_every, same_right_exists, same_cut, same_nameless}
 use Rattle.polarised_formulas.proofs.SameTexts.{formula_before-same, formula_named}
 use Rattle.explicit_form.specs.Sizes.{StepNamedBelow, StepsNamedBelow}
-use Rattle.explicit_form.specs.StepText.{word_text, step_word, argument_before, line_before, lines_before, end_text, header_text, certificate_text}
+use Rattle.explicit_form.specs.StepText.{word_text, step_word, argument_before, lines_before, end_text, header_text, certificate_text}
 
 word-same : {S : ℕ → ℕ → Type 0} {s t : Step} → SameStep S s t → step_word s ≡ step_word t
 word-same (same_exists_step h) = refl

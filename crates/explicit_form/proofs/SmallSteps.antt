@@ -1,5 +1,5 @@
 -- Steps whose names stand in a table, with small numbers and sizes, are plain and keep the limits.
-use Rattle.std.proofs.Common.{◌≡◌, ℕ, suc, ◌+◌, ◌<◌, ◌≤◌, inl, inr, List, [], ◌∷◌, length, refl, arith}
+use Rattle.std.proofs.Common.{ℕ, suc, ◌+◌, ◌<◌, ◌≤◌, inl, inr, List, [], length, refl, arith}
 use Rattle.std.proofs.lemmas.Option.{slice_get-get_or}
 use Rattle.fpc_terms.specs.Arity.{HasFew, AllHaveFew}
 use Rattle.fpc_terms.specs.Name.{IsName, AreNames, AreDifferent}

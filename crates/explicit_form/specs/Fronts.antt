@@ -1,5 +1,5 @@
 -- What a reader sees of a line at once.
-use Rattle.std.specs.Prelude.{◌≡◌, ℕ, suc, slice_index_or, ◌+◌, ◌≤◌, Bool, true, false, ◌&&◌, List, [], ◌∷◌, ◌++◌, length, take, drop, Option, Some, None}
+use Rattle.std.specs.Prelude.{◌≡◌, ℕ, suc, slice_index_or, ◌≤◌, Bool, true, false, ◌&&◌, List, [], ◌∷◌, ◌++◌, length, take, Option, Some, None}
 use Rattle.fpc_base.specs.declared.refusal.Code.{Code}
 use Rattle.polarised_formulas.specs.declared.logic.Logic.{Logic}
 use Rattle.polarised_formulas.specs.declared.logic.Logic.TheVariants.{Lkf, Ljf}

@@ -63,8 +63,23 @@ fn o_word(bytes: &[u8]) -> Option<(Word, usize)>
 {
     match bytes {
         [b'o', b'r', b'-', b'\n', ..] => Some((Word::Bare(Bare::OrN), 4)),
-        [b'o', b'r', b'+', b' ', b'l', b'e', b'f', b't', b'\n', ..] => Some((Word::Bare(Bare::OrP(Side::Left)), 9)),
-        [b'o', b'r', b'+', b' ', b'r', b'i', b'g', b'h', b't', b'\n', ..] => Some((Word::Bare(Bare::OrP(Side::Right)), 10)),
+        [b'o', b'r', b'+', b' ', b'l', b'e', b'f', b't', b'\n', ..] => Some((
+            Word::Bare(Bare::OrP(Side::Left)),
+            9,
+        )),
+        [
+            b'o',
+            b'r',
+            b'+',
+            b' ',
+            b'r',
+            b'i',
+            b'g',
+            b'h',
+            b't',
+            b'\n',
+            ..
+        ] => Some((Word::Bare(Bare::OrP(Side::Right)), 10)),
         _ => None,
     }
 }
@@ -97,7 +112,10 @@ fn r_word(bytes: &[u8]) -> Option<(Word, usize)>
     ensures { IfSome result (λ r. IsFound Lkf bytes.now r.0 r.1) }
 {
     match bytes {
-        [b'r', b'e', b'l', b'e', b'a', b's', b'e', b'\n', ..] => Some((Word::Bare(Bare::Release), 8)),
+        [b'r', b'e', b'l', b'e', b'a', b's', b'e', b'\n', ..] => Some((
+            Word::Bare(Bare::Release),
+            8,
+        )),
         _ => None,
     }
 }
@@ -138,7 +156,10 @@ fn left_word(bytes: &[u8]) -> Option<(Word, usize)>
         [b'l', b'-', b'a', b'n', b'd', b'\n', ..] => Some((Word::Bare(Bare::LAnd), 6)),
         [b'l', b'-', b'o', b'r', b'\n', ..] => Some((Word::Bare(Bare::LOr), 5)),
         [b'l', b'-', b's', b'o', b'm', b'e', b'\n', ..] => Some((Word::Bare(Bare::LExists), 7)),
-        [b'l', b'-', b's', b't', b'o', b'r', b'e', b'\n', ..] => Some((Word::Bare(Bare::LStore), 8)),
+        [b'l', b'-', b's', b't', b'o', b'r', b'e', b'\n', ..] => Some((
+            Word::Bare(Bare::LStore),
+            8,
+        )),
         _ => None,
     }
 }
@@ -151,7 +172,10 @@ fn right_word(bytes: &[u8]) -> Option<(Word, usize)>
         [b'r', b'-', b'a', b'n', b'd', b'\n', ..] => Some((Word::Bare(Bare::RAnd), 6)),
         [b'r', b'-', b'i', b'm', b'p', b'\n', ..] => Some((Word::Bare(Bare::RImp), 6)),
         [b'r', b'-', b'a', b'l', b'l', b'\n', ..] => Some((Word::Bare(Bare::REvery), 6)),
-        [b'r', b'-', b's', b't', b'o', b'r', b'e', b'\n', ..] => Some((Word::Bare(Bare::RStore), 8)),
+        [b'r', b'-', b's', b't', b'o', b'r', b'e', b'\n', ..] => Some((
+            Word::Bare(Bare::RStore),
+            8,
+        )),
         _ => None,
     }
 }
@@ -160,12 +184,60 @@ fn left_focus_word(bytes: &[u8]) -> Option<(Word, usize)>
     ensures { IfSome result (λ r. IsFound Ljf bytes.now r.0 r.1) }
 {
     match bytes {
-        [b'l', b'f', b'-', b'a', b'n', b'd', b' ', b'l', b'e', b'f', b't', b'\n', ..] => Some((Word::Bare(Bare::FocLAnd(Side::Left)), 12)),
-        [b'l', b'f', b'-', b'a', b'n', b'd', b' ', b'r', b'i', b'g', b'h', b't', b'\n', ..] => Some((Word::Bare(Bare::FocLAnd(Side::Right)), 13)),
+        [
+            b'l',
+            b'f',
+            b'-',
+            b'a',
+            b'n',
+            b'd',
+            b' ',
+            b'l',
+            b'e',
+            b'f',
+            b't',
+            b'\n',
+            ..
+        ] => Some((Word::Bare(Bare::FocLAnd(Side::Left)), 12)),
+        [
+            b'l',
+            b'f',
+            b'-',
+            b'a',
+            b'n',
+            b'd',
+            b' ',
+            b'r',
+            b'i',
+            b'g',
+            b'h',
+            b't',
+            b'\n',
+            ..
+        ] => Some((Word::Bare(Bare::FocLAnd(Side::Right)), 13)),
         [b'l', b'f', b'-', b'i', b'm', b'p', b'\n', ..] => Some((Word::Bare(Bare::FocLImp), 7)),
-        [b'l', b'f', b'-', b'a', b'l', b'l', b' ', ..] => Some((Word::Written(Written::FocLEvery), 7)),
-        [b'l', b'f', b'-', b'i', b'n', b'i', b't', b'\n', ..] => Some((Word::Bare(Bare::FocLInit), 8)),
-        [b'l', b'f', b'-', b'r', b'e', b'l', b'e', b'a', b's', b'e', b'\n', ..] => Some((Word::Bare(Bare::FocLRelease), 11)),
+        [b'l', b'f', b'-', b'a', b'l', b'l', b' ', ..] => Some((
+            Word::Written(Written::FocLEvery),
+            7,
+        )),
+        [b'l', b'f', b'-', b'i', b'n', b'i', b't', b'\n', ..] => Some((
+            Word::Bare(Bare::FocLInit),
+            8,
+        )),
+        [
+            b'l',
+            b'f',
+            b'-',
+            b'r',
+            b'e',
+            b'l',
+            b'e',
+            b'a',
+            b's',
+            b'e',
+            b'\n',
+            ..
+        ] => Some((Word::Bare(Bare::FocLRelease), 11)),
         _ => None,
     }
 }
@@ -176,11 +248,57 @@ fn right_focus_word(bytes: &[u8]) -> Option<(Word, usize)>
     match bytes {
         [b'r', b'f', b'-', b't', b't', b'\n', ..] => Some((Word::Bare(Bare::FocRTrue), 6)),
         [b'r', b'f', b'-', b'a', b'n', b'd', b'\n', ..] => Some((Word::Bare(Bare::FocRAnd), 7)),
-        [b'r', b'f', b'-', b'o', b'r', b' ', b'l', b'e', b'f', b't', b'\n', ..] => Some((Word::Bare(Bare::FocROr(Side::Left)), 11)),
-        [b'r', b'f', b'-', b'o', b'r', b' ', b'r', b'i', b'g', b'h', b't', b'\n', ..] => Some((Word::Bare(Bare::FocROr(Side::Right)), 12)),
-        [b'r', b'f', b'-', b's', b'o', b'm', b'e', b' ', ..] => Some((Word::Written(Written::FocRExists), 8)),
-        [b'r', b'f', b'-', b'i', b'n', b'i', b't', b' ', ..] => Some((Word::Placed(Placed::FocRInit), 8)),
-        [b'r', b'f', b'-', b'r', b'e', b'l', b'e', b'a', b's', b'e', b'\n', ..] => Some((Word::Bare(Bare::FocRRelease), 11)),
+        [
+            b'r',
+            b'f',
+            b'-',
+            b'o',
+            b'r',
+            b' ',
+            b'l',
+            b'e',
+            b'f',
+            b't',
+            b'\n',
+            ..
+        ] => Some((Word::Bare(Bare::FocROr(Side::Left)), 11)),
+        [
+            b'r',
+            b'f',
+            b'-',
+            b'o',
+            b'r',
+            b' ',
+            b'r',
+            b'i',
+            b'g',
+            b'h',
+            b't',
+            b'\n',
+            ..
+        ] => Some((Word::Bare(Bare::FocROr(Side::Right)), 12)),
+        [b'r', b'f', b'-', b's', b'o', b'm', b'e', b' ', ..] => Some((
+            Word::Written(Written::FocRExists),
+            8,
+        )),
+        [b'r', b'f', b'-', b'i', b'n', b'i', b't', b' ', ..] => Some((
+            Word::Placed(Placed::FocRInit),
+            8,
+        )),
+        [
+            b'r',
+            b'f',
+            b'-',
+            b'r',
+            b'e',
+            b'l',
+            b'e',
+            b'a',
+            b's',
+            b'e',
+            b'\n',
+            ..
+        ] => Some((Word::Bare(Bare::FocRRelease), 11)),
         _ => None,
     }
 }
@@ -189,8 +307,14 @@ fn other_ljf_word(bytes: &[u8]) -> Option<(Word, usize)>
     ensures { IfSome result (λ r. IsFound Ljf bytes.now r.0 r.1) }
 {
     match bytes {
-        [b'd', b'e', b'c', b'i', b'd', b'e', b'-', b'l', b' ', ..] => Some((Word::Placed(Placed::DecideL), 9)),
-        [b'd', b'e', b'c', b'i', b'd', b'e', b'-', b'r', b'\n', ..] => Some((Word::Bare(Bare::DecideR), 9)),
+        [b'd', b'e', b'c', b'i', b'd', b'e', b'-', b'l', b' ', ..] => Some((
+            Word::Placed(Placed::DecideL),
+            9,
+        )),
+        [b'd', b'e', b'c', b'i', b'd', b'e', b'-', b'r', b'\n', ..] => Some((
+            Word::Bare(Bare::DecideR),
+            9,
+        )),
         [b'c', b'u', b't', b' ', ..] => Some((Word::Written(Written::Cut), 4)),
         [b'e', b'n', b'd', b'\n', ..] => Some((Word::End, 4)),
         _ => None,

@@ -1,6 +1,6 @@
 //! An explicit certificate that is read in pieces.
 ghost use Rattle.std.specs.Prelude.{◌≡◌, ℕ, ◌+◌, ◌∷◌, ◌++◌, [], List, Some, None, Ok, Err, IfOk, IsOk, OnOk, IsTrue, ◌↔◌, ◌<◌, ◌≤◌, length};
-ghost use Rattle.fpc_terms.specs.Name.{Agrees, Grows, AreDifferent};
+ghost use Rattle.fpc_terms.specs.Name.{Agrees, Grows};
 ghost use Rattle.fpc_terms.specs.Adding.{AddsOnly};
 ghost use Rattle.polarised_formulas.specs.Adding.{IsPartIn};
 ghost use Rattle.explicit_form.specs.declared.line.Mode.TheVariants as mode;
@@ -93,12 +93,9 @@ impl StepReader {
     {
         let phase = self.phase;
         match phase {
+            Phase::Lines => self.feed_line(names, bytes),
+            Phase::Heading | Phase::Ended => self.feed_bytes(names, bytes),
             Phase::Faulty(fault) => Err(self.fail(fault)),
-            _ => {
-                let fed = self.feed_line(names, bytes);
-                names.distinct();
-                fed
-            }
         }
     }
 
@@ -139,11 +136,12 @@ impl StepReader {
         }
     }
 
-    /// Takes bytes where nothing was told of the earlier ones.
+    /// Takes bytes behind the first line.
     #[inline(always)]
     fn feed_line(&mut self, names: &mut Names, bytes: &[u8]) -> Result<usize, StepFault>
+        requires { self.old.phase ≡ Phase.Lines }
         ensures grows { Grows names.old names.new }
-        ensures only { (logic : Logic) (before : List ℕ) → AreDifferent names.new → StandsBehind logic names.old before self.old → AddsOnly (IsPartIn before (line_in bytes.now)) names.old names.new }
+        ensures only { (logic : Logic) (before : List ℕ) → StandsBehind logic names.old before self.old → AddsOnly (IsPartIn before (line_in bytes.now)) names.old names.new }
         ensures line { (number : List ℕ → ℕ) (logic : Logic) (st : State) → Agrees number names.new → IsAt logic st self.old
             → IsLine number logic st self.old.at bytes.now result self.new }
         ensures count { IfOk result (λ n. n ≡ line_length bytes.now) }
@@ -163,10 +161,11 @@ impl StepReader {
     /// Whether no byte of a line was taken, and all the bytes lie below the limit.
     #[inline(always)]
     fn is_at_begin(&self, bytes: &[u8]) -> bool
+        requires { self.now.phase ≡ Phase.Lines }
         ensures begin { IsTrue result → IsBegin self.now }
         ensures room { IsTrue result → self.now.at + length bytes.now ≤ 67108864 }
     {
-        self.phase == Phase::Lines && self.line.is_at_begin() && self.has_room(bytes)
+        self.line.is_at_begin() && self.has_room(bytes)
     }
 
     /// Takes bytes that begin with a word of so many bytes.
@@ -183,7 +182,7 @@ impl StepReader {
         requires length { n ≡ length (word_text word) }
         requires room { self.old.at + length bytes.now ≤ 67108864 }
         ensures grows { Grows names.old names.new }
-        ensures only { (logic : Logic) (before : List ℕ) → AreDifferent names.new → StandsBehind logic names.old before self.old → AddsOnly (IsPartIn before (line_in bytes.now)) names.old names.new }
+        ensures only { (logic : Logic) (before : List ℕ) → StandsBehind logic names.old before self.old → AddsOnly (IsPartIn before (line_in bytes.now)) names.old names.new }
         ensures line { (number : List ℕ → ℕ) (logic : Logic) (st : State) → Agrees number names.new → IsAt logic st self.old
             → IsLine number logic st self.old.at bytes.now result self.new }
         ensures count { IfOk result (λ n. n ≡ line_length bytes.now) }
@@ -222,7 +221,7 @@ impl StepReader {
         requires length { n ≡ length (word_text (word.Placed placed)) }
         requires room { self.old.at + length bytes.now ≤ 67108864 }
         ensures grows { Grows names.old names.new }
-        ensures only { (logic : Logic) (before : List ℕ) → AreDifferent names.new → StandsBehind logic names.old before self.old → AddsOnly (IsPartIn before (line_in bytes.now)) names.old names.new }
+        ensures only { (logic : Logic) (before : List ℕ) → StandsBehind logic names.old before self.old → AddsOnly (IsPartIn before (line_in bytes.now)) names.old names.new }
         ensures line { (number : List ℕ → ℕ) (logic : Logic) (st : State) → Agrees number names.new → IsAt logic st self.old
             → IsLine number logic st self.old.at bytes.now result self.new }
         ensures count { IfOk result (λ n. n ≡ line_length bytes.now) }
@@ -255,7 +254,7 @@ impl StepReader {
         requires length { n ≡ length (word_text (word.Written written)) }
         requires room { self.old.at + length bytes.now ≤ 67108864 }
         ensures grows { Grows names.old names.new }
-        ensures only { (logic : Logic) (before : List ℕ) → AreDifferent names.new → StandsBehind logic names.old before self.old → AddsOnly (IsPartIn before (line_in bytes.now)) names.old names.new }
+        ensures only { (logic : Logic) (before : List ℕ) → StandsBehind logic names.old before self.old → AddsOnly (IsPartIn before (line_in bytes.now)) names.old names.new }
         ensures line { (number : List ℕ → ℕ) (logic : Logic) (st : State) → Agrees number names.new → IsAt logic st self.old
             → IsLine number logic st self.old.at bytes.now result self.new }
         ensures count { IfOk result (λ n. n ≡ line_length bytes.now) }
@@ -276,8 +275,9 @@ impl StepReader {
     /// Takes bytes inside a line.
     #[inline(never)]
     fn feed_rest(&mut self, names: &mut Names, bytes: &[u8]) -> Result<usize, StepFault>
+        requires { self.old.phase ≡ Phase.Lines }
         ensures grows { Grows names.old names.new }
-        ensures only { (logic : Logic) (before : List ℕ) → AreDifferent names.new → StandsBehind logic names.old before self.old → AddsOnly (IsPartIn before (line_in bytes.now)) names.old names.new }
+        ensures only { (logic : Logic) (before : List ℕ) → StandsBehind logic names.old before self.old → AddsOnly (IsPartIn before (line_in bytes.now)) names.old names.new }
         ensures line { (number : List ℕ → ℕ) (logic : Logic) (st : State) → Agrees number names.new → IsAt logic st self.old
             → IsLine number logic st self.old.at bytes.now result self.new }
         ensures count { IfOk result (λ n. n ≡ line_length bytes.now) }
@@ -285,7 +285,7 @@ impl StepReader {
         ensures stays { (fault : StepFault) → result ≡ Err fault → self.new.phase ≡ Phase.Faulty fault }
         ensures none { (fault : StepFault) → result ≡ Err fault → self.new.step ≡ None }
     {
-        if self.phase == Phase::Lines && self.has_room(bytes) {
+        if self.has_room(bytes) {
             if let Some(written) = self.line.written() {
                 self.step = None;
                 return self.feed_plain(names, written, bytes);
@@ -314,7 +314,7 @@ impl StepReader {
         requires mode { self.old.line.mode ≡ mode.InPlain written }
         requires room { self.old.at + length bytes.now ≤ 67108864 }
         ensures grows { Grows names.old names.new }
-        ensures only { (logic : Logic) (before : List ℕ) → AreDifferent names.new → StandsBehind logic names.old before self.old → AddsOnly (IsPartIn before (line_in bytes.now)) names.old names.new }
+        ensures only { (logic : Logic) (before : List ℕ) → StandsBehind logic names.old before self.old → AddsOnly (IsPartIn before (line_in bytes.now)) names.old names.new }
         ensures line { (number : List ℕ → ℕ) (logic : Logic) (st : State) → Agrees number names.new → IsAt logic st self.old
             → IsLine number logic st self.old.at bytes.now result self.new }
         ensures count { IfOk result (λ n. n ≡ line_length bytes.now) }
@@ -326,6 +326,7 @@ impl StepReader {
         let n = line_length(bytes);
         let (line, _) = bytes.split_at(n);
         let PlainRun { passed, last } = self.line.plain.bytes(names, line);
+        names.distinct();
         let answer = answer_in(written, last);
         match self.take_answer(answer, self.at + passed) {
             Ok(()) => {
@@ -340,7 +341,7 @@ impl StepReader {
     #[inline(never)]
     fn feed_bytes(&mut self, names: &mut Names, bytes: &[u8]) -> Result<usize, StepFault>
         ensures grows { Grows names.old names.new }
-        ensures only { (logic : Logic) (before : List ℕ) → AreDifferent names.new → StandsBehind logic names.old before self.old → AddsOnly (IsPartIn before (line_in bytes.now)) names.old names.new }
+        ensures only { (logic : Logic) (before : List ℕ) → StandsBehind logic names.old before self.old → AddsOnly (IsPartIn before (line_in bytes.now)) names.old names.new }
         ensures line { (number : List ℕ → ℕ) (logic : Logic) (st : State) → Agrees number names.new → IsAt logic st self.old
             → IsLine number logic st self.old.at bytes.now result self.new }
         ensures count { IfOk result (λ n. n ≡ line_length bytes.now) }
@@ -353,12 +354,17 @@ impl StepReader {
         for (i, b) in bytes.iter().enumerate() {
             match self.byte(names, *b) {
                 Ok(()) => {}
-                Err(fault) => return Err(fault),
+                Err(fault) => {
+                    names.distinct();
+                    return Err(fault);
+                }
             }
             if *b == b'\n' {
+                names.distinct();
                 return Ok(i + 1);
             }
         }
+        names.distinct();
         Ok(bytes.len())
     }
 

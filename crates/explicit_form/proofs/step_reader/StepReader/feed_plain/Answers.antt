@@ -10,17 +10,17 @@ use Rattle.explicit_form.proofs.PlainFeeding.{plain-taken, plain-told, plain-add
 use Rattle.explicit_form.proofs.step_reader.StepReader.feed_plain.Goals as goal
 
 pub returns-in-Ok-clause-only : goal.returns-in-Ok-clause-only
-returns-in-Ok-clause-only c = λ logic before differ stands.
+returns-in-Ok-clause-only c = λ logic before stands.
     let bytes = c.args.bytes.now in
     let e : c.split_at.result.0.now ≡ line_in bytes = c.split_at.ensures.front ∙ ap (λ k. take k bytes) c.line_length-n.ensures.count in
-    plain-adds logic before c.args.written (line_in bytes) c.args.self.now c.args.names.now c.bytes-passed.new.names c.requires.phase c.requires.mode c.bytes-passed.ensures.grows differ stands
+    plain-adds logic before c.args.written (line_in bytes) c.args.self.now c.args.names.now c.bytes-passed.new.names c.requires.phase c.requires.mode c.bytes-passed.ensures.grows c.distinct.ensures stands
     (λ number q agrees h. subst (λ bs. AddsOnly (IsPartIn c.args.self.now.line.plain.word.items bs) c.args.names.now c.bytes-passed.new.names) e (c.bytes-passed.ensures.only number logic q agrees h))
 
 pub returns-in-Err-clause-only : goal.returns-in-Err-clause-only
-returns-in-Err-clause-only c = λ logic before differ stands.
+returns-in-Err-clause-only c = λ logic before stands.
     let bytes = c.args.bytes.now in
     let e : c.split_at.result.0.now ≡ line_in bytes = c.split_at.ensures.front ∙ ap (λ k. take k bytes) c.line_length-n.ensures.count in
-    plain-adds logic before c.args.written (line_in bytes) c.args.self.now c.args.names.now c.bytes-passed.new.names c.requires.phase c.requires.mode c.bytes-passed.ensures.grows differ stands
+    plain-adds logic before c.args.written (line_in bytes) c.args.self.now c.args.names.now c.bytes-passed.new.names c.requires.phase c.requires.mode c.bytes-passed.ensures.grows c.distinct.ensures stands
     (λ number q agrees h. subst (λ bs. AddsOnly (IsPartIn c.args.self.now.line.plain.word.items bs) c.args.names.now c.bytes-passed.new.names) e (c.bytes-passed.ensures.only number logic q agrees h))
 
 pub returns-in-Ok-clause-line : goal.returns-in-Ok-clause-line
