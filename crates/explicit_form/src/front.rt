@@ -28,11 +28,15 @@ fn lkf_word(bytes: &[u8]) -> Option<(Word, usize)>
     match bytes {
         [b's', ..] => s_word(bytes),
         [b'd', ..] => d_word(bytes),
+        [b'i', ..] => i_word(bytes),
         [b'o', ..] => o_word(bytes),
         [b'a', ..] => a_word(bytes),
         [b't', ..] => t_word(bytes),
         [b'r', ..] => r_word(bytes),
-        _ => other_lkf_word(bytes),
+        [b'f', ..] => f_word(bytes),
+        [b'c', ..] => c_word(bytes),
+        [b'e', ..] => e_word(bytes),
+        _ => None,
     }
 }
 
@@ -120,15 +124,41 @@ fn r_word(bytes: &[u8]) -> Option<(Word, usize)>
     }
 }
 
-/// Of those with another first byte than the words above.
 #[inline(always)]
-fn other_lkf_word(bytes: &[u8]) -> Option<(Word, usize)>
+fn i_word(bytes: &[u8]) -> Option<(Word, usize)>
     ensures { IfSome result (λ r. IsFound Lkf bytes.now r.0 r.1) }
 {
     match bytes {
         [b'i', b'n', b'i', b't', b' ', ..] => Some((Word::Placed(Placed::Init), 5)),
+        _ => None,
+    }
+}
+
+#[inline(always)]
+fn f_word(bytes: &[u8]) -> Option<(Word, usize)>
+    ensures { IfSome result (λ r. IsFound Lkf bytes.now r.0 r.1) }
+{
+    match bytes {
         [b'f', b'f', b'-', b'\n', ..] => Some((Word::Bare(Bare::FalseN), 4)),
+        _ => None,
+    }
+}
+
+#[inline(always)]
+fn c_word(bytes: &[u8]) -> Option<(Word, usize)>
+    ensures { IfSome result (λ r. IsFound Lkf bytes.now r.0 r.1) }
+{
+    match bytes {
         [b'c', b'u', b't', b' ', ..] => Some((Word::Written(Written::Cut), 4)),
+        _ => None,
+    }
+}
+
+#[inline(always)]
+fn e_word(bytes: &[u8]) -> Option<(Word, usize)>
+    ensures { IfSome result (λ r. IsFound Lkf bytes.now r.0 r.1) }
+{
+    match bytes {
         [b'e', b'n', b'd', b'\n', ..] => Some((Word::End, 4)),
         _ => None,
     }

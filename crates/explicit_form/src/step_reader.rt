@@ -91,11 +91,10 @@ impl StepReader {
         ensures none { (fault : StepFault) → result ≡ Err fault → self.new.step ≡ None }
         ensures again { (fault : StepFault) → self.old.phase ≡ Phase.Faulty fault → result ≡ Err fault }
     {
-        let phase = self.phase;
-        match phase {
-            Phase::Lines => self.feed_line(names, bytes),
-            Phase::Heading | Phase::Ended => self.feed_bytes(names, bytes),
-            Phase::Faulty(fault) => Err(self.fail(fault)),
+        if self.is_at_begin(bytes) {
+            self.feed_line(names, bytes)
+        } else {
+            self.feed_inside(names, bytes)
         }
     }
 
@@ -136,10 +135,23 @@ impl StepReader {
         }
     }
 
-    /// Takes bytes behind the first line.
+    /// Whether no byte of a line was taken, and all the bytes lie below the limit.
+    #[inline(always)]
+    fn is_at_begin(&self, bytes: &[u8]) -> bool
+        ensures begin { IsTrue result → IsBegin self.now }
+        ensures room { IsTrue result → self.now.at + length bytes.now ≤ 67108864 }
+    {
+        match &self.phase {
+            Phase::Lines => self.line.is_at_begin() && self.has_room(bytes),
+            Phase::Heading | Phase::Ended | Phase::Faulty(_) => false,
+        }
+    }
+
+    /// Takes bytes at the begin of a line.
     #[inline(always)]
     fn feed_line(&mut self, names: &mut Names, bytes: &[u8]) -> Result<usize, StepFault>
-        requires { self.old.phase ≡ Phase.Lines }
+        requires begin { IsBegin self.old }
+        requires room { self.old.at + length bytes.now ≤ 67108864 }
         ensures grows { Grows names.old names.new }
         ensures only { (logic : Logic) (before : List ℕ) → StandsBehind logic names.old before self.old → AddsOnly (IsPartIn before (line_in bytes.now)) names.old names.new }
         ensures line { (number : List ℕ → ℕ) (logic : Logic) (st : State) → Agrees number names.new → IsAt logic st self.old
@@ -149,23 +161,10 @@ impl StepReader {
         ensures stays { (fault : StepFault) → result ≡ Err fault → self.new.phase ≡ Phase.Faulty fault }
         ensures none { (fault : StepFault) → result ≡ Err fault → self.new.step ≡ None }
     {
-        if !self.is_at_begin(bytes) {
-            return self.feed_rest(names, bytes);
-        }
         match word_at(self.line.logic, bytes) {
             Some((word, n)) => self.feed_word(names, word, n, bytes),
             None => self.feed_bytes(names, bytes),
         }
-    }
-
-    /// Whether no byte of a line was taken, and all the bytes lie below the limit.
-    #[inline(always)]
-    fn is_at_begin(&self, bytes: &[u8]) -> bool
-        requires { self.now.phase ≡ Phase.Lines }
-        ensures begin { IsTrue result → IsBegin self.now }
-        ensures room { IsTrue result → self.now.at + length bytes.now ≤ 67108864 }
-    {
-        self.line.is_at_begin() && self.has_room(bytes)
     }
 
     /// Takes bytes that begin with a word of so many bytes.
@@ -196,14 +195,38 @@ impl StepReader {
                 self.step = Some(bare_step(bare));
                 Ok(n)
             }
+            Word::Placed(_) | Word::Written(_) | Word::End => {
+                self.feed_argument(names, word, n, bytes)
+            }
+        }
+    }
+
+    /// Takes bytes that begin with a word of so many bytes, behind which an argument may come.
+    #[inline(never)]
+    fn feed_argument(
+        &mut self,
+        names: &mut Names,
+        word: Word,
+        n: usize,
+        bytes: &[u8],
+    ) -> Result<usize, StepFault>
+        requires begin { IsBegin self.old }
+        requires word { IsWordAt self.old.line.logic bytes.now word }
+        requires length { n ≡ length (word_text word) }
+        requires room { self.old.at + length bytes.now ≤ 67108864 }
+        ensures grows { Grows names.old names.new }
+        ensures only { (logic : Logic) (before : List ℕ) → StandsBehind logic names.old before self.old → AddsOnly (IsPartIn before (line_in bytes.now)) names.old names.new }
+        ensures line { (number : List ℕ → ℕ) (logic : Logic) (st : State) → Agrees number names.new → IsAt logic st self.old
+            → IsLine number logic st self.old.at bytes.now result self.new }
+        ensures count { IfOk result (λ n. n ≡ line_length bytes.now) }
+        ensures place { IfOk result (λ n. self.new.at ≡ self.old.at + n) }
+        ensures stays { (fault : StepFault) → result ≡ Err fault → self.new.phase ≡ Phase.Faulty fault }
+        ensures none { (fault : StepFault) → result ≡ Err fault → self.new.step ≡ None }
+    {
+        match word {
             Word::Placed(placed) => self.feed_place(names, placed, n, bytes),
             Word::Written(written) => self.feed_written(names, written, n, bytes),
-            Word::End => {
-                self.at += n;
-                self.step = None;
-                self.phase = Phase::Ended;
-                Ok(n)
-            }
+            Word::Bare(_) | Word::End => self.feed_bytes(names, bytes),
         }
     }
 
@@ -272,8 +295,29 @@ impl StepReader {
         }
     }
 
-    /// Takes bytes inside a line.
+    /// Takes bytes anywhere.
     #[inline(never)]
+    fn feed_inside(&mut self, names: &mut Names, bytes: &[u8]) -> Result<usize, StepFault>
+        ensures grows { Grows names.old names.new }
+        ensures only { (logic : Logic) (before : List ℕ) → StandsBehind logic names.old before self.old → AddsOnly (IsPartIn before (line_in bytes.now)) names.old names.new }
+        ensures line { (number : List ℕ → ℕ) (logic : Logic) (st : State) → Agrees number names.new → IsAt logic st self.old
+            → IsLine number logic st self.old.at bytes.now result self.new }
+        ensures count { IfOk result (λ n. n ≡ line_length bytes.now) }
+        ensures place { IfOk result (λ n. self.new.at ≡ self.old.at + n) }
+        ensures stays { (fault : StepFault) → result ≡ Err fault → self.new.phase ≡ Phase.Faulty fault }
+        ensures none { (fault : StepFault) → result ≡ Err fault → self.new.step ≡ None }
+        ensures unchanged { (fault : StepFault) → self.old.phase ≡ Phase.Faulty fault → names.new ≡ names.old }
+        ensures again { (fault : StepFault) → self.old.phase ≡ Phase.Faulty fault → result ≡ Err fault }
+    {
+        let phase = self.phase;
+        match phase {
+            Phase::Lines => self.feed_rest(names, bytes),
+            Phase::Heading | Phase::Ended => self.feed_bytes(names, bytes),
+            Phase::Faulty(fault) => Err(self.fail(fault)),
+        }
+    }
+
+    /// Takes bytes behind the first line.
     fn feed_rest(&mut self, names: &mut Names, bytes: &[u8]) -> Result<usize, StepFault>
         requires { self.old.phase ≡ Phase.Lines }
         ensures grows { Grows names.old names.new }
