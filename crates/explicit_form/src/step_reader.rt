@@ -195,15 +195,14 @@ impl StepReader {
                 self.step = Some(bare_step(bare));
                 Ok(n)
             }
-            Word::Placed(_) | Word::Written(_) | Word::End => {
-                self.feed_argument(names, word, n, bytes)
-            }
+            Word::Placed(placed) => self.feed_place(names, placed, n, bytes),
+            Word::Written(_) | Word::End => self.feed_other(names, word, n, bytes),
         }
     }
 
-    /// Takes bytes that begin with a word of so many bytes, behind which an argument may come.
+    /// Takes bytes that begin with a word of so many bytes, one of the less common.
     #[inline(never)]
-    fn feed_argument(
+    fn feed_other(
         &mut self,
         names: &mut Names,
         word: Word,
@@ -224,9 +223,8 @@ impl StepReader {
         ensures none { (fault : StepFault) → result ≡ Err fault → self.new.step ≡ None }
     {
         match word {
-            Word::Placed(placed) => self.feed_place(names, placed, n, bytes),
             Word::Written(written) => self.feed_written(names, written, n, bytes),
-            Word::Bare(_) | Word::End => self.feed_bytes(names, bytes),
+            Word::Bare(_) | Word::Placed(_) | Word::End => self.feed_bytes(names, bytes),
         }
     }
 
