@@ -128,10 +128,6 @@ module _ (old middle : StepReader) (w : Written) (n : ℕ) (bytes rest : List �
   taken : (number : List ℕ → ℕ) (logic : Logic) (st : State) → IsAt logic st old → HasTaken number logic st old.at (take n bytes) middle
   taken number logic st here = written-taken number logic st bytes old begin here room w n middle found n_is phase line none
 
-  -- how many bytes the first line has
-  pub both-counted : (m : ℕ) → m ≡ line_length rest → n + m ≡ line_length bytes
-  both-counted m e = ap (λ k. n + k) (e ∙ ap line_length rest_is) ∙ sym size
-
   pub both-taken : (number : List ℕ → ℕ) (logic : Logic) (st : State) → IsAt logic st old → (m : ℕ) (new : StepReader) → ((s : State) → IsAt logic s middle → IsLine number logic s middle.at rest (Ok m) new)
       → HasTaken number logic st old.at (take (n + m) bytes) new
   both-taken number logic st here m new answered =

@@ -12,11 +12,9 @@ use Rattle.polarised_formulas.specs.declared.logic.Side.TheVariants.{Left, Right
 use Rattle.polarised_formulas.specs.declared.step.Step.{Step}
 use Rattle.polarised_formulas.specs.PlainReading.{can_grow, grown}
 use Rattle.polarised_formulas.proofs.Lookups.{EachOf}
-use Rattle.explicit_form.specs.declared.word.Bare.{Bare}
 use Rattle.explicit_form.specs.declared.word.Bare.TheVariants as bare
 use Rattle.explicit_form.specs.declared.word.Placed.{Placed}
 use Rattle.explicit_form.specs.declared.word.Placed.TheVariants as placed
-use Rattle.explicit_form.specs.declared.word.Written.{Written}
 use Rattle.explicit_form.specs.declared.word.Written.TheVariants as written
 use Rattle.explicit_form.specs.declared.word.Word.{Word}
 use Rattle.explicit_form.specs.declared.word.Word.TheVariants as word
@@ -144,28 +142,6 @@ taken-led number logic st next place bytes r l h here done = record {
   untold = untold-below number logic bytes st place l h.1;
   step_is = ap done_of h.0 ∙ done;
 }
-
--- how many bytes the first line of those that begin with a word has
-bare-size : (b : Bare) (more : List ℕ) → line_length (word_text (word.Bare b) ++ more) ≡ length (word_text (word.Bare b))
-bare-size (bare.OrP Left) more = refl
-bare-size (bare.OrP Right) more = refl
-bare-size (bare.FocLAnd Left) more = refl
-bare-size (bare.FocLAnd Right) more = refl
-bare-size (bare.FocROr Left) more = refl
-bare-size (bare.FocROr Right) more = refl
-bare-size _ more = refl
-
-placed-size : (p : Placed) (more : List ℕ) → line_length (word_text (word.Placed p) ++ more) ≡ length (word_text (word.Placed p)) + line_length more
-placed-size placed.Decide more = omega arith
-placed-size placed.Init more = omega arith
-placed-size placed.DecideL more = omega arith
-placed-size placed.FocRInit more = omega arith
-
-written-size : (w : Written) (more : List ℕ) → line_length (word_text (word.Written w) ++ more) ≡ length (word_text (word.Written w)) + line_length more
-written-size written.Exists more = omega arith
-written-size written.FocLEvery more = omega arith
-written-size written.FocRExists more = omega arith
-written-size written.Cut more = omega arith
 
 -- one byte
 leads-one : (number : List ℕ → ℕ) (logic : Logic) (st next : State) (b : ℕ) → go number logic st b ≡ next → is_untold st next ≡ true → Leads number logic st (b ∷ []) next

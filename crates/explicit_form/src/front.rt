@@ -21,6 +21,7 @@ pub(crate) fn word_at(logic: Logic, bytes: &[u8]) -> Option<(Word, usize)>
     }
 }
 
+/// The first byte tells which words it may be.
 #[inline(always)]
 fn lkf_word(bytes: &[u8]) -> Option<(Word, usize)>
     ensures { IfSome result (λ r. IsFound Lkf bytes.now r.0 r.1) }
@@ -164,6 +165,7 @@ fn e_word(bytes: &[u8]) -> Option<(Word, usize)>
     }
 }
 
+/// The first two bytes tell which words it may be.
 #[inline(never)]
 fn ljf_word(bytes: &[u8]) -> Option<(Word, usize)>
     ensures { IfSome result (λ r. IsFound Ljf bytes.now r.0 r.1) }

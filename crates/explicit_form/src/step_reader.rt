@@ -94,7 +94,7 @@ impl StepReader {
         if self.is_at_begin(bytes) {
             self.feed_line(names, bytes)
         } else {
-            self.feed_inside(names, bytes)
+            self.feed_anywhere(names, bytes)
         }
     }
 
@@ -200,7 +200,7 @@ impl StepReader {
         }
     }
 
-    /// Takes bytes that begin with a word of so many bytes, one of the less common.
+    /// Takes bytes that begin with a word of so many bytes. It is out of line, which keeps the way of the other words short.
     #[inline(never)]
     fn feed_other(
         &mut self,
@@ -293,9 +293,9 @@ impl StepReader {
         }
     }
 
-    /// Takes bytes anywhere.
+    /// Takes bytes wherever the reader stands.
     #[inline(never)]
-    fn feed_inside(&mut self, names: &mut Names, bytes: &[u8]) -> Result<usize, StepFault>
+    fn feed_anywhere(&mut self, names: &mut Names, bytes: &[u8]) -> Result<usize, StepFault>
         ensures grows { Grows names.old names.new }
         ensures only { (logic : Logic) (before : List ℕ) → StandsBehind logic names.old before self.old → AddsOnly (IsPartIn before (line_in bytes.now)) names.old names.new }
         ensures line { (number : List ℕ → ℕ) (logic : Logic) (st : State) → Agrees number names.new → IsAt logic st self.old

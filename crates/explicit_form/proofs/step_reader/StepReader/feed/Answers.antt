@@ -15,14 +15,14 @@ pub returns-then-is_at_begin-clause-moves : goal.returns-then-is_at_begin-clause
 returns-then-is_at_begin-clause-moves c = moves-on c.args.bytes.now c.feed_line.result c.feed_line.ensures.count
 
 pub returns-else-is_at_begin-clause-only : goal.returns-else-is_at_begin-clause-only
-returns-else-is_at_begin-clause-only c = λ logic known before h grown. c.feed_inside.ensures.only logic before (stands-behind logic known c.args.names.now before c.args.bytes.now c.args.self.now c.feed_inside.new.self h grown)
+returns-else-is_at_begin-clause-only c = λ logic known before h grown. c.feed_anywhere.ensures.only logic before (stands-behind logic known c.args.names.now before c.args.bytes.now c.args.self.now c.feed_anywhere.new.self h grown)
 
 pub returns-else-is_at_begin-clause-fed : goal.returns-else-is_at_begin-clause-fed
 returns-else-is_at_begin-clause-fed c = λ logic known before h grown.
-    fed logic known c.feed_inside.new.names before c.args.bytes.now c.args.self.now c.feed_inside.new.self h (λ k text e. c.feed_inside.ensures.grows k text (grown k text e)) c.feed_inside.result c.feed_inside.ensures.line c.feed_inside.ensures.count c.feed_inside.ensures.place
+    fed logic known c.feed_anywhere.new.names before c.args.bytes.now c.args.self.now c.feed_anywhere.new.self h (λ k text e. c.feed_anywhere.ensures.grows k text (grown k text e)) c.feed_anywhere.result c.feed_anywhere.ensures.line c.feed_anywhere.ensures.count c.feed_anywhere.ensures.place
 
 pub returns-else-is_at_begin-clause-within : goal.returns-else-is_at_begin-clause-within
-returns-else-is_at_begin-clause-within c = is-within c.args.bytes.now c.feed_inside.result c.feed_inside.ensures.count
+returns-else-is_at_begin-clause-within c = is-within c.args.bytes.now c.feed_anywhere.result c.feed_anywhere.ensures.count
 
 pub returns-else-is_at_begin-clause-moves : goal.returns-else-is_at_begin-clause-moves
-returns-else-is_at_begin-clause-moves c = moves-on c.args.bytes.now c.feed_inside.result c.feed_inside.ensures.count
+returns-else-is_at_begin-clause-moves c = moves-on c.args.bytes.now c.feed_anywhere.result c.feed_anywhere.ensures.count
