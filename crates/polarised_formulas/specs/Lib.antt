@@ -20,6 +20,7 @@ pub mod RoundTrip
 pub mod ReadProblem
 pub mod PlainReading
 pub mod PlainForm
+pub mod PlainFronts
 pub mod Numbering
 pub mod PlainTexts
 pub mod PlainLimits
