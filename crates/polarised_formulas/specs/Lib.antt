@@ -20,7 +20,6 @@ pub mod RoundTrip
 pub mod ReadProblem
 pub mod PlainReading
 pub mod PlainForm
-pub mod PlainFronts
 pub mod Numbering
 pub mod PlainTexts
 pub mod PlainLimits
@@ -42,3 +41,4 @@ pub mod Held
 pub mod Grows
 pub mod ArgumentCells
 pub mod PlainRuns
+pub mod PlainFronts

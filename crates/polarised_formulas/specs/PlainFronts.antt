@@ -1,9 +1,14 @@
--- Words and connectives at the front of some bytes.
-use Rattle.std.specs.Prelude.{◌≡◌, ℕ, Bool, true, false, List, ◌∷◌, ◌++◌, length}
+-- Words, names and connectives at the front of some bytes.
+use Rattle.std.specs.Prelude.{◌≡◌, ℕ, ◌≤◌, Bool, true, false, if◌then◌else◌, nat_eq, List, [], ◌∷◌, ◌++◌, length, take, slice_index}
+use Rattle.fpc_terms.specs.Name.{begins_name, is_name_byte}
+use Rattle.fpc_terms.specs.Term.{no_args}
 use Rattle.polarised_formulas.specs.declared.logic.Logic.{Logic}
 use Rattle.polarised_formulas.specs.declared.logic.Logic.TheVariants.{Lkf, Ljf}
 use Rattle.polarised_formulas.specs.declared.logic.Polarity.TheVariants.{Positive, Negative}
-use Rattle.polarised_formulas.specs.PlainReading.{Word, true_unit, false_unit, binder, word_text}
+use Rattle.polarised_formulas.specs.Formula.{atom}
+use Rattle.polarised_formulas.specs.PlainReading.{Operator, conjunction, disjunction, implication, link_text, Word, true_unit, false_unit, binder, word_text, Hole, in_atom, Reading, at_term, on, next, end_formula, end_name}
+use Rattle.polarised_formulas.specs.PlainLimits.{nesting}
+use Rattle.polarised_formulas.specs.PlainRuns.{Reaches}
 
 -- the word is one of the logic's
 abbrev pub is_word : Logic → Word → Bool
@@ -16,3 +21,35 @@ is_word Ljf (binder q) = true
 -- the bytes begin with the text of the word, which is one of the logic's and has so many
 abbrev pub IsWordAt : Logic → List ℕ → Word → ℕ → Type 0
 IsWordAt logic bytes w n = (is_word logic w ≡ true) × (n ≡ length (word_text logic w)) × ((more : List ℕ) × (bytes ≡ word_text logic w ++ more))
+
+-- the operator is one of the logic's
+abbrev pub is_operator : Logic → Operator → Bool
+is_operator Lkf (conjunction p) = true
+is_operator Lkf (disjunction p) = true
+is_operator Lkf implication = false
+is_operator Ljf (conjunction p) = true
+is_operator Ljf (disjunction Positive) = true
+is_operator Ljf (disjunction Negative) = false
+is_operator Ljf implication = true
+
+-- the bytes begin with the operator and its blanks, which is one of the logic's and has so many bytes with them
+abbrev pub IsLinkAt : Logic → List ℕ → Operator → ℕ → Type 0
+IsLinkAt logic bytes o n = (is_operator logic o ≡ true) × (n ≡ length (32 ∷ link_text logic o)) × ((more : List ℕ) × (bytes ≡ (32 ∷ link_text logic o) ++ more))
+
+-- the first bytes, so many, are the letters of a name that the next byte ends, and are not too many
+pub record IsNameAt (bytes : List ℕ) (n : ℕ) : Type 0 where
+  pub name : begins_name (take n bytes) ≡ true
+  pub few : n ≤ 255
+  pub behind : is_name_byte (slice_index bytes n) ≡ false
+
+-- the first bytes, so many, lead to a reading at which the next byte ends the name of a literal that they are
+pub record EndsName (number : List ℕ → ℕ) (logic : Logic) (hs : List Hole) (positive : Bool) (bytes : List ℕ) (n : ℕ) (q : Reading) : Type 0 where
+  pub reading : Reading
+  pub reached : Reaches number logic q (take n bytes) reading
+  pub shallow : nesting reading ≡ 0
+  pub ends : next number logic reading (slice_index bytes n) ≡ end_name number hs positive (take n bytes) (slice_index bytes n)
+
+-- at the reading the byte comes behind the name of a literal
+pub record IsBehindName (number : List ℕ → ℕ) (logic : Logic) (hs : List Hole) (positive : Bool) (name b : ℕ) (q : Reading) : Type 0 where
+  pub shallow : nesting q ≡ 0
+  pub ends : next number logic q b ≡ (if nat_eq b 40 then on (at_term (in_atom hs positive name [])) else end_formula hs (atom positive name no_args) b)

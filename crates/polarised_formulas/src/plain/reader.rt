@@ -14,6 +14,7 @@ ghost use Rattle.polarised_formulas.specs.PlainLimits.{nesting};
 ghost use Rattle.polarised_formulas.specs.PlainStanding.{Stands, IsOutside, IsLiteral, IsNext, IsOn, IsNamed, begun, BeginsWord, word_meant, operator_of, built_holes, told_of, next_unnamed};
 
 mod fronts;
+mod pieces;
 pub mod runs;
 mod terms;
 mod words;

@@ -1,15 +1,18 @@
-//! Words and connectives at the front of some bytes.
-ghost use Rattle.std.specs.Prelude.{IfSome};
+//! Words, names and connectives at the front of some bytes.
+ghost use Rattle.std.specs.Prelude.{◌<◌, ◌≤◌, ℕ, IfSome, length};
 ghost use Rattle.polarised_formulas.specs.declared.logic.Logic.TheVariants.{Lkf, Ljf};
-ghost use Rattle.polarised_formulas.specs.PlainStanding.{word_meant};
-ghost use Rattle.polarised_formulas.specs.PlainFronts.{IsWordAt};
+ghost use Rattle.polarised_formulas.specs.PlainStanding.{word_meant, operator_of};
+ghost use Rattle.polarised_formulas.specs.PlainFronts.{IsWordAt, IsLinkAt, IsNameAt};
 
+use crate::connective::Joiner;
 use crate::logic::{Logic, Polarity};
-use crate::plain::reader::words::Word;
+use crate::plain::reader::words::{Word, is_small_letter, name_bytes};
 
 /// The word that the bytes begin with, if any, and how many bytes it has.
 pub(crate) fn word_at(logic: Logic, bytes: &[u8]) -> Option<(Word, usize)>
-    ensures { IfSome result (λ r. IsWordAt logic bytes.now (word_meant r.0) r.1) }
+    ensures some { IfSome result (λ r. 0 < r.1) }
+    ensures within { IfSome result (λ r. r.1 ≤ length bytes.now) }
+    ensures text { IfSome result (λ r. IsWordAt logic bytes.now (word_meant r.0) r.1) }
 {
     match logic {
         Logic::Lkf => lkf_word_at(bytes),
@@ -41,5 +44,59 @@ fn ljf_word_at(bytes: &[u8]) -> Option<(Word, usize)>
         [b'a', b'l', b'l', b' ', ..] => Some((Word::All, 4)),
         [b's', b'o', b'm', b'e', b' ', ..] => Some((Word::Some, 5)),
         _ => None,
+    }
+}
+
+/// The connective, with its blanks, that the bytes begin with, if any, and how many bytes it has.
+pub(crate) fn link_at(logic: Logic, bytes: &[u8]) -> Option<(Joiner, usize)>
+    ensures some { IfSome result (λ r. 0 < r.1) }
+    ensures within { IfSome result (λ r. r.1 ≤ length bytes.now) }
+    ensures text { IfSome result (λ r. IsLinkAt logic bytes.now (operator_of r.0) r.1) }
+{
+    match logic {
+        Logic::Lkf => lkf_link_at(bytes),
+        Logic::Ljf => ljf_link_at(bytes),
+    }
+}
+
+fn lkf_link_at(bytes: &[u8]) -> Option<(Joiner, usize)>
+    ensures { IfSome result (λ r. IsLinkAt Lkf bytes.now (operator_of r.0) r.1) }
+{
+    match bytes {
+        [b' ', b'|', b'-', b' ', ..] => Some((Joiner::Or(Polarity::Negative), 4)),
+        [b' ', b'|', b'+', b' ', ..] => Some((Joiner::Or(Polarity::Positive), 4)),
+        [b' ', b'&', b'-', b' ', ..] => Some((Joiner::And(Polarity::Negative), 4)),
+        [b' ', b'&', b'+', b' ', ..] => Some((Joiner::And(Polarity::Positive), 4)),
+        _ => None,
+    }
+}
+
+fn ljf_link_at(bytes: &[u8]) -> Option<(Joiner, usize)>
+    ensures { IfSome result (λ r. IsLinkAt Ljf bytes.now (operator_of r.0) r.1) }
+{
+    match bytes {
+        [b' ', b'&', b'+', b' ', ..] => Some((Joiner::And(Polarity::Positive), 4)),
+        [b' ', b'&', b'-', b' ', ..] => Some((Joiner::And(Polarity::Negative), 4)),
+        [b' ', b'|', b' ', ..] => Some((Joiner::Or(Polarity::Positive), 3)),
+        [b' ', b'=', b'>', b' ', ..] => Some((Joiner::Implies, 4)),
+        _ => None,
+    }
+}
+
+/// How many bytes the name has that the bytes begin with, where its end lies in them and it is not
+/// too long.
+pub(crate) fn name_at(bytes: &[u8]) -> Option<usize>
+    requires { 0 < length bytes.now }
+    ensures name { IfSome result (λ n. IsNameAt bytes.now n) }
+    ensures within { IfSome result (λ n. n < length bytes.now) }
+{
+    if !is_small_letter(bytes[0]) {
+        return None;
+    }
+    let n = name_bytes(bytes);
+    if n < bytes.len() && n <= 255 {
+        Some(n)
+    } else {
+        None
     }
 }
