@@ -1,6 +1,6 @@
 -- Words, names and connectives at the front of some bytes.
 use Rattle.std.specs.Prelude.{◌≡◌, ℕ, ◌≤◌, Bool, true, false, if◌then◌else◌, nat_eq, List, [], ◌∷◌, ◌++◌, length, take, slice_index}
-use Rattle.fpc_terms.specs.Name.{begins_name, is_name_byte}
+use Rattle.fpc_terms.specs.Name.{begins_name, is_name_byte, is_keyword}
 use Rattle.fpc_terms.specs.Term.{no_args}
 use Rattle.polarised_formulas.specs.declared.logic.Logic.{Logic}
 use Rattle.polarised_formulas.specs.declared.logic.Logic.TheVariants.{Lkf, Ljf}
@@ -42,12 +42,12 @@ pub record IsNameAt (bytes : List ℕ) (n : ℕ) : Type 0 where
   pub few : n ≤ 255
   pub behind : is_name_byte (slice_index bytes n) ≡ false
 
--- the first bytes, so many, lead to a reading at which the next byte ends the name of a literal that they are
+-- the first bytes, so many, lead to a reading at which the next byte ends the name of a literal that they are, where they are one
 pub record EndsName (number : List ℕ → ℕ) (logic : Logic) (hs : List Hole) (positive : Bool) (bytes : List ℕ) (n : ℕ) (q : Reading) : Type 0 where
   pub reading : Reading
   pub reached : Reaches number logic q (take n bytes) reading
   pub shallow : nesting reading ≡ 0
-  pub ends : next number logic reading (slice_index bytes n) ≡ end_name number hs positive (take n bytes) (slice_index bytes n)
+  pub ends : is_keyword (take n bytes) ≡ false → next number logic reading (slice_index bytes n) ≡ end_name number hs positive (take n bytes) (slice_index bytes n)
 
 -- at the reading the byte comes behind the name of a literal
 pub record IsBehindName (number : List ℕ → ℕ) (logic : Logic) (hs : List Hole) (positive : Bool) (name b : ℕ) (q : Reading) : Type 0 where

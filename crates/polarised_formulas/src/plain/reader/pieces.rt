@@ -16,7 +16,7 @@ use crate::connective::Joiner;
 use crate::logic::Logic;
 use crate::plain::reader::fronts::{link_at, name_at, word_at};
 use crate::plain::reader::runs::{PlainRun, stopped};
-use crate::plain::reader::words::{Word, word_with};
+use crate::plain::reader::words::Word;
 use crate::plain::reader::{Mode, PlainReader, Progress, name_of};
 use fpc_base::refusal::{Code, TokenRefusal};
 use fpc_terms::name::NameId;
@@ -50,10 +50,10 @@ impl PlainReader {
             → IsStop number logic (at_formula hs) bytes.now result.passed result.last self.new }
         ensures within { result.passed < length bytes.now }
     {
-        match self.end_word(word) {
-            Ok(Progress::Going) => self.behind_word(n, bytes),
-            last => stopped(n - 1, last),
+        if let Err(refusal) = self.end_word(word) {
+            return stopped(n - 1, Err(refusal));
         }
+        self.behind_word(n, bytes)
     }
 
     /// Behind a word, which ends at a place, takes what stands there where it is a unit.
@@ -65,11 +65,24 @@ impl PlainReader {
         ensures within { result.passed < length bytes.now }
     {
         if self.mode == Mode::BehindFormula && n < bytes.len() {
-            let (_, rest) = bytes.split_at(n);
-            let PlainRun { passed, last } = self.behind_piece(rest);
-            return stopped(n + passed, last);
+            self.behind_unit(n, bytes)
+        } else {
+            stopped(n - 1, Ok(Progress::Going))
         }
-        stopped(n - 1, Ok(Progress::Going))
+    }
+
+    /// Takes what stands behind a unit, which ends at a place.
+    fn behind_unit(&mut self, n: usize, bytes: &[u8]) -> PlainRun
+        requires mode { self.old.mode ≡ Mode.BehindFormula }
+        requires some { 0 < n }
+        requires within { n < length bytes.now }
+        ensures stop { (number : List ℕ → ℕ) (logic : Logic) (q : Reading) → IsStop number logic q bytes.now (n - 1) (Ok Going) self.old
+            → IsStop number logic q bytes.now result.passed result.last self.new }
+        ensures within { result.passed < length bytes.now }
+    {
+        let (_, rest) = bytes.split_at(n);
+        let PlainRun { passed, last } = self.behind_piece(rest);
+        stopped(n + passed, last)
     }
 
     /// Takes a name without a mark, with what stands behind it, or a byte.
@@ -81,30 +94,25 @@ impl PlainReader {
             → IsStop number logic (at_formula hs) bytes.now result.passed result.last self.new }
         ensures within { result.passed < length bytes.now }
     {
-        if self.logic == Logic::Ljf {
-            return self.one_byte(names, bytes);
-        }
-        match name_at(bytes) {
-            Some(n) => self.bare_piece(names, n, bytes),
-            None => self.one_byte(names, bytes),
+        let logic = self.logic;
+        match logic {
+            Logic::Lkf => self.bare_piece(names, bytes),
+            Logic::Ljf => self.one_byte(names, bytes),
         }
     }
 
-    /// Takes a whole name of so many bytes in LKF, with what stands behind it, or a byte.
-    fn bare_piece(&mut self, names: &mut Names, n: usize, bytes: &[u8]) -> PlainRun
-        requires logic { self.old.logic ≡ Lkf }
-        requires name { IsNameAt bytes.now n }
-        requires within { n < length bytes.now }
+    /// Takes a name of LKF, with what stands behind it, or a byte.
+    fn bare_piece(&mut self, names: &mut Names, bytes: &[u8]) -> PlainRun
+        requires { 0 < length bytes.now }
         ensures grows { Grows names.old names.new }
         ensures only { AddsOnly (IsPartIn self.old.word.items bytes.now) names.old names.new }
-        ensures stop { (number : List ℕ → ℕ) (logic : Logic) (hs : List Hole) → length hs < 10000 → Agrees number names.new → Stands logic (at_formula hs) self.old
-            → IsStop number logic (at_formula hs) bytes.now result.passed result.last self.new }
+        ensures stop { (number : List ℕ → ℕ) (hs : List Hole) → length hs < 10000 → Agrees number names.new → Stands Lkf (at_formula hs) self.old
+            → IsStop number Lkf (at_formula hs) bytes.now result.passed result.last self.new }
         ensures within { result.passed < length bytes.now }
     {
-        let (front, _) = bytes.split_at(n + 1);
-        match word_with(Logic::Lkf, front) {
-            Some(_) => self.one_byte(names, bytes),
-            None => self.literal_piece(names, true, n, bytes),
+        match name_at(bytes) {
+            Some(n) => self.literal_piece(names, true, n, bytes),
+            None => self.one_byte(names, bytes),
         }
     }
 
@@ -128,7 +136,7 @@ impl PlainReader {
         }
     }
 
-    /// Takes the whole name of a literal, of so many bytes, and what stands behind it.
+    /// Takes the whole name of a literal, of so many bytes, with what stands behind it, or a byte.
     fn literal_piece(
         &mut self,
         names: &mut Names,
@@ -140,8 +148,8 @@ impl PlainReader {
         requires within { n < length bytes.now }
         ensures grows { Grows names.old names.new }
         ensures only { AddsOnly (IsPartIn self.old.word.items bytes.now) names.old names.new }
-        ensures stop { (number : List ℕ → ℕ) (logic : Logic) (hs : List Hole) (q : Reading) → Agrees number names.new → IsLiteral logic hs [] self.old
-            → EndsName number logic hs positive bytes.now n q → IsStop number logic q bytes.now result.passed result.last self.new }
+        ensures stop { (number : List ℕ → ℕ) (logic : Logic) (hs : List Hole) (q : Reading) → Agrees number names.new → Stands logic q self.old
+            → IsLiteral logic hs [] self.old → EndsName number logic hs positive bytes.now n q → IsStop number logic q bytes.now result.passed result.last self.new }
         ensures within { result.passed < length bytes.now }
     {
         let (word, rest) = bytes.split_at(n);
@@ -150,7 +158,7 @@ impl PlainReader {
                 let PlainRun { passed, last } = self.behind_name(positive, name, rest);
                 stopped(n + passed, last)
             }
-            Err(refusal) => stopped(n, Err(refusal)),
+            Err(_) => self.one_byte(names, bytes),
         }
     }
 
@@ -162,7 +170,7 @@ impl PlainReader {
         ensures within { result.passed < length bytes.now }
     {
         if bytes[0] == b'(' {
-            return stopped(0, self.end_named_literal(positive, name, b'('));
+            return stopped(0, self.end_named_literal(positive, name, bytes[0]));
         }
         match self.add_literal(positive, name) {
             Ok(()) => self.behind_piece(bytes),
