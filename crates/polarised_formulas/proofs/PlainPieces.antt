@@ -1,5 +1,5 @@
 -- Words, names and connectives of a formula that lie whole in some bytes.
-use Rattle.std.proofs.Common.{◌≡◌, ℕ, zero, suc, ◌+◌, ◌-◌, ◌<◌, ◌≤◌, Bool, true, false, if◌then◌else◌, List, [], ◌∷◌, ◌++◌, length, take, drop, Result, Ok, Err, refl, sym, ap, ◌∙◌, subst, arith, nat_eq, nat_lt}
+use Rattle.std.proofs.Common.{◌≡◌, ℕ, zero, suc, ◌+◌, ◌-◌, ◌<◌, ◌≤◌, Bool, true, false, if◌then◌else◌, List, [], ◌∷◌, ◌++◌, length, take, drop, None, Result, Ok, Err, refl, sym, ap, ◌∙◌, subst, arith, nat_eq, nat_lt}
 use Rattle.std.specs.Prelude.{slice_index}
 use Rattle.std.proofs.lemmas.Bool.{cond-false}
 use Rattle.std.proofs.lemmas.Bool.Decides.{nat_tests}
@@ -18,13 +18,15 @@ use Rattle.polarised_formulas.specs.declared.plain.reader.Mode as mode
 use Rattle.polarised_formulas.specs.declared.plain.reader.PlainReader.{PlainReader}
 use Rattle.polarised_formulas.specs.declared.connective.Joiner as joiner
 use Rattle.polarised_formulas.specs.Unfinished as built
-use Rattle.polarised_formulas.specs.Formula.{Formula, atom}
-use Rattle.polarised_formulas.specs.PlainReading.{Operator, word_text, link_text, conjunction, disjunction, implication, Word, true_unit, false_unit, binder, every, some, Hole, second_of, Reading, at_formula, in_word, at_name, in_name, behind_formula, in_operator, at_term, in_function, at_eigen, in_eigen, at_index, in_index, behind_term, in_atom, on, next, end_formula, after_word, end_word}
+use Rattle.polarised_formulas.specs.declared.node.Node.{Node}
+use Rattle.polarised_formulas.specs.declared.node.Node.TheVariants.{True, False, Atom, And, Or, Implies, ForAll, Exists, Inside}
+use Rattle.polarised_formulas.specs.Formula.{Formula, atom, formula_of}
+use Rattle.polarised_formulas.specs.PlainReading.{Operator, word_text, link_text, conjunction, disjunction, implication, Word, true_unit, false_unit, binder, every, some, Hole, second_of, Reading, at_formula, in_word, at_name, in_name, behind_formula, in_operator, at_term, in_function, at_eigen, in_eigen, at_index, in_index, behind_term, in_atom, on, whole_formula, next, end_formula, after_word, end_word}
 use Rattle.polarised_formulas.specs.PlainLimits.{nesting, limit_of}
 use Rattle.polarised_formulas.specs.PlainStanding.{operator_of, built_holes, Stands, IsNext}
-use Rattle.polarised_formulas.specs.PlainRuns.{Reaches, IsStop}
-use Rattle.polarised_formulas.specs.PlainFronts.{is_word, is_operator, IsWordAt, IsLinkAt, IsNameAt, EndsName, IsBehindName}
-use Rattle.polarised_formulas.proofs.PlainRuns.{in_limit, name-reached, name-few, next-stop, reaches-append, index-drop, went-on, taken-more}
+use Rattle.polarised_formulas.specs.PlainRuns.{Reaches, IsStop, IsRun}
+use Rattle.polarised_formulas.specs.PlainFronts.{is_word, is_unit, unit_word, is_operator, IsWordAt, IsUnitLine, IsLinkAt, IsNameAt, EndsName, IsBehindName}
+use Rattle.polarised_formulas.proofs.PlainRuns.{run-stop, in_limit, name-reached, name-few, next-stop, reaches-append, index-drop, went-on, taken-more}
 use Rattle.polarised_formulas.proofs.FormulaForward.{Names-word, Names-mark}
 use Rattle.polarised_formulas.proofs.Lookups.{no_word}
 use Rattle.polarised_formulas.proofs.Answering.{length-built_holes, joiner_of-operator_of, links-pair, links-none}
@@ -75,6 +77,17 @@ behind-formula logic (at_index up) r h e = let m = h.mode in let no : ⊥ = cc i
 behind-formula logic (in_index up k) r h e = let m = h.mode in let no : ⊥ = cc in absurd no
 behind-formula logic (behind_term up t) r h e = let m = h.mode in let no : ⊥ = cc in absurd no
 
+-- one more byte
+reaches-last : (number : List ℕ → ℕ) (logic : Logic) (q s t : Reading) (bytes : List ℕ) (n : ℕ) → 0 < n → n - 1 < length bytes → Reaches number logic q (take (n - 1) bytes) s → Reaches number logic s (slice_index bytes (n - 1) ∷ []) t
+    → Reaches number logic q (take n bytes) t
+reaches-last number logic q s t bytes n positive within front one =
+    let l : 0 + (n - 1) < length bytes = omega arith in
+    let e : 0 + (n - 1 + 1) ≡ n = omega arith in
+    let z : 0 + (n - 1) ≡ n - 1 = omega arith in
+    let all : take n bytes ≡ take (n - 1) bytes ++ slice_index bytes (n - 1) ∷ [] =
+    subst (λ k. take k bytes ≡ take (n - 1) bytes ++ slice_index bytes (n - 1) ∷ []) e (subst (λ k. take (0 + (n - 1 + 1)) bytes ≡ take k bytes ++ slice_index bytes k ∷ []) z (taken-more bytes 0 (n - 1) l)) in
+    subst (λ bs. Reaches number logic q bs t) (sym all) (reaches-append number logic (take (n - 1) bytes) (slice_index bytes (n - 1) ∷ []) q s t front one)
+
 -- what stands behind a part that ends with the byte in front of a place
 pub behind-stop : (number : List ℕ → ℕ) (logic : Logic) (q : Reading) (bytes : List ℕ) (n m : ℕ) (old new : PlainReader) (result : Result progress.Progress TokenRefusal) → 0 < n → n < length bytes
     → IsStop number logic q bytes (n - 1) (Ok progress.TheVariants.Going) old → old.mode ≡ mode.TheVariants.BehindFormula
@@ -82,40 +95,107 @@ pub behind-stop : (number : List ℕ → ℕ) (logic : Logic) (q : Reading) (byt
 behind-stop number logic q bytes n m old new result positive within t is stop =
     let w = went-on logic (nesting t.reading) old (next number logic t.reading (slice_index bytes (n - 1))) t.answer in
     let one : Reaches number logic t.reading (slice_index bytes (n - 1) ∷ []) w.0 = (w.0, w.1, w.3, refl) in
-    let l : 0 + (n - 1) < length bytes = (let w = t.within in let k : 0 + (n - 1) < length bytes = omega arith in k) in
-    let e : 0 + (n - 1 + 1) ≡ n = omega arith in
-    let zero-front : 0 + (n - 1) ≡ n - 1 = omega arith in
-    let all : take n bytes ≡ take (n - 1) bytes ++ slice_index bytes (n - 1) ∷ [] = subst (λ k. take k bytes ≡ take (n - 1) bytes ++ slice_index bytes (n - 1) ∷ []) e (subst (λ k. take (0 + (n - 1 + 1)) bytes ≡ take k bytes ++ slice_index bytes k ∷ []) zero-front (taken-more bytes 0 (n - 1) l)) in
-    let front = subst (λ bs. Reaches number logic q bs w.0) (sym all) (reaches-append number logic (take (n - 1) bytes) (slice_index bytes (n - 1) ∷ []) q t.reading w.0 t.reached one) in
+    let front = reaches-last number logic q t.reading w.0 bytes n positive t.within t.reached one in
     let p = behind-formula logic w.0 old w.2 is in
     stop-behind number logic q w.0 bytes n m result new (omega arith) front (subst (λ s. IsStop number logic s (drop n bytes) m result new) (sym p.2) (stop p.0 p.1 (subst (λ s. Stands logic s old) p.2 w.2)))
 
--- nothing is told of the depth
-not-told : {X : Type 0} (hs : List Hole) → length hs < 10000 → (x y : X) → (if nat_lt 10000 (suc (length hs)) then x else y) ≡ y
-not-told hs shallow x y = let t : nat_lt 10000 (suc (length hs)) ≡ false = grind (arith, nat_tests) in cond-false (nat_lt 10000 (suc (length hs))) x y t
+-- The bytes in front of a word's last one, which stands in front of a place, lead to a reading at which that one ends the word.
+record IsWordRead (number : List ℕ → ℕ) (logic : Logic) (hs : List Hole) (bytes : List ℕ) (w : Word) (n : ℕ) : Type 0 where
+  pub reading : Reading
+  pub reached : Reaches number logic (at_formula hs) (take (n - 1) bytes) reading
+  pub within : n - 1 < length bytes
+  pub positive : 0 < n
+  pub shallow : nesting reading ≡ 0
+  pub ends : next number logic reading (slice_index bytes (n - 1)) ≡ after_word hs w
 
 -- a word
-module _ (number : List ℕ → ℕ) (hs : List Hole) (shallow : length hs < 10000) (result : Result progress.Progress TokenRefusal) (r : PlainReader) where
+module _ (number : List ℕ → ℕ) (hs : List Hole) (shallow : length hs < 10000) where
   told : {X : Type 0} (x y : X) → (if nat_lt 10000 (suc (length hs)) then x else y) ≡ y
-  told x y = not-told hs shallow x y
+  told x y = let t : nat_lt 10000 (suc (length hs)) ≡ false = grind (arith, nat_tests) in cond-false (nat_lt 10000 (suc (length hs))) x y t
 
-  pub word-stop : (logic : Logic) (bytes : List ℕ) (w : Word) (n : ℕ) → IsWordAt logic bytes w n → IsNext logic 0 result r (after_word hs w) → IsStop number logic (at_formula hs) bytes (n - 1) result r
-  word-stop logic bytes w n h answer = rw (h.1, h.2.1) (by logic w h.2.0 h.0 answer)
-    where
-      by : (logic : Logic) (w : Word) (more : List ℕ) → is_word logic w ≡ true → IsNext logic 0 result r (after_word hs w)
-          → IsStop number logic (at_formula hs) (word_text logic w ++ more) (length (word_text logic w) - 1) result r
-      by Lkf (true_unit Positive) more is a = record { reading = in_word hs (116 ∷ 116 ∷ []); reached = (in_word hs (116 ∷ []), refl, told _ _, (in_word hs (116 ∷ 116 ∷ []), refl, refl, refl)); within = (let k : 2 < suc (suc (suc (length more))) = omega arith in k); answer = a }
-      by Lkf (true_unit Negative) more is a = record { reading = in_word hs (116 ∷ 116 ∷ []); reached = (in_word hs (116 ∷ []), refl, told _ _, (in_word hs (116 ∷ 116 ∷ []), refl, refl, refl)); within = (let k : 2 < suc (suc (suc (length more))) = omega arith in k); answer = a }
-      by Lkf (false_unit Positive) more is a = record { reading = in_word hs (102 ∷ 102 ∷ []); reached = (in_word hs (102 ∷ []), refl, told _ _, (in_word hs (102 ∷ 102 ∷ []), refl, refl, refl)); within = (let k : 2 < suc (suc (suc (length more))) = omega arith in k); answer = a }
-      by Lkf (false_unit Negative) more is a = record { reading = in_word hs (102 ∷ 102 ∷ []); reached = (in_word hs (102 ∷ []), refl, told _ _, (in_word hs (102 ∷ 102 ∷ []), refl, refl, refl)); within = (let k : 2 < suc (suc (suc (length more))) = omega arith in k); answer = a }
-      by Lkf (binder every) more is a = record { reading = in_word hs (97 ∷ 108 ∷ 108 ∷ []); reached = (in_word hs (97 ∷ []), refl, told _ _, (in_word hs (97 ∷ 108 ∷ []), refl, refl, (in_word hs (97 ∷ 108 ∷ 108 ∷ []), refl, refl, refl))); within = (let k : 3 < suc (suc (suc (suc (length more)))) = omega arith in k); answer = a }
-      by Lkf (binder some) more is a = record { reading = in_word hs (115 ∷ 111 ∷ 109 ∷ 101 ∷ []); reached = (in_word hs (115 ∷ []), refl, told _ _, (in_word hs (115 ∷ 111 ∷ []), refl, refl, (in_word hs (115 ∷ 111 ∷ 109 ∷ []), refl, refl, (in_word hs (115 ∷ 111 ∷ 109 ∷ 101 ∷ []), refl, refl, refl)))); within = (let k : 4 < suc (suc (suc (suc (suc (length more))))) = omega arith in k); answer = a }
-      by Ljf (true_unit Positive) more is a = record { reading = in_word hs (116 ∷ 116 ∷ []); reached = (in_word hs (116 ∷ []), refl, told _ _, (in_word hs (116 ∷ 116 ∷ []), refl, refl, refl)); within = (let k : 2 < suc (suc (suc (length more))) = omega arith in k); answer = a }
-      by Ljf (true_unit Negative) more is a = record { reading = in_word hs (116 ∷ 116 ∷ []); reached = (in_word hs (116 ∷ []), refl, told _ _, (in_word hs (116 ∷ 116 ∷ []), refl, refl, refl)); within = (let k : 2 < suc (suc (suc (length more))) = omega arith in k); answer = a }
-      by Ljf (false_unit Positive) more is a = record { reading = in_word hs (102 ∷ []); reached = (in_word hs (102 ∷ []), refl, told _ _, refl); within = (let k : 1 < suc (suc (length more)) = omega arith in k); answer = a }
-      by Ljf (binder every) more is a = record { reading = in_word hs (97 ∷ 108 ∷ 108 ∷ []); reached = (in_word hs (97 ∷ []), refl, told _ _, (in_word hs (97 ∷ 108 ∷ []), refl, refl, (in_word hs (97 ∷ 108 ∷ 108 ∷ []), refl, refl, refl))); within = (let k : 3 < suc (suc (suc (suc (length more)))) = omega arith in k); answer = a }
-      by Ljf (binder some) more is a = record { reading = in_word hs (115 ∷ 111 ∷ 109 ∷ 101 ∷ []); reached = (in_word hs (115 ∷ []), refl, told _ _, (in_word hs (115 ∷ 111 ∷ []), refl, refl, (in_word hs (115 ∷ 111 ∷ 109 ∷ []), refl, refl, (in_word hs (115 ∷ 111 ∷ 109 ∷ 101 ∷ []), refl, refl, refl)))); within = (let k : 4 < suc (suc (suc (suc (suc (length more))))) = omega arith in k); answer = a }
-      by Ljf (false_unit Negative) more is a = cc
+  by-word : (logic : Logic) (w : Word) (more : List ℕ) → is_word logic w ≡ true → IsWordRead number logic hs (word_text logic w ++ more) w (length (word_text logic w))
+  by-word Lkf (true_unit Positive) more is = record { reading = in_word hs (116 ∷ 116 ∷ []); reached = (in_word hs (116 ∷ []), refl, told _ _, (in_word hs (116 ∷ 116 ∷ []), refl, refl, refl)); within = (let k : 2 < suc (suc (suc (length more))) = omega arith in k); positive = (let k : 0 < 3 = omega arith in k); shallow = refl; ends = refl }
+  by-word Lkf (true_unit Negative) more is = record { reading = in_word hs (116 ∷ 116 ∷ []); reached = (in_word hs (116 ∷ []), refl, told _ _, (in_word hs (116 ∷ 116 ∷ []), refl, refl, refl)); within = (let k : 2 < suc (suc (suc (length more))) = omega arith in k); positive = (let k : 0 < 3 = omega arith in k); shallow = refl; ends = refl }
+  by-word Lkf (false_unit Positive) more is = record { reading = in_word hs (102 ∷ 102 ∷ []); reached = (in_word hs (102 ∷ []), refl, told _ _, (in_word hs (102 ∷ 102 ∷ []), refl, refl, refl)); within = (let k : 2 < suc (suc (suc (length more))) = omega arith in k); positive = (let k : 0 < 3 = omega arith in k); shallow = refl; ends = refl }
+  by-word Lkf (false_unit Negative) more is = record { reading = in_word hs (102 ∷ 102 ∷ []); reached = (in_word hs (102 ∷ []), refl, told _ _, (in_word hs (102 ∷ 102 ∷ []), refl, refl, refl)); within = (let k : 2 < suc (suc (suc (length more))) = omega arith in k); positive = (let k : 0 < 3 = omega arith in k); shallow = refl; ends = refl }
+  by-word Lkf (binder every) more is = record { reading = in_word hs (97 ∷ 108 ∷ 108 ∷ []); reached = (in_word hs (97 ∷ []), refl, told _ _, (in_word hs (97 ∷ 108 ∷ []), refl, refl, (in_word hs (97 ∷ 108 ∷ 108 ∷ []), refl, refl, refl))); within = (let k : 3 < suc (suc (suc (suc (length more)))) = omega arith in k); positive = (let k : 0 < 4 = omega arith in k); shallow = refl; ends = refl }
+  by-word Lkf (binder some) more is = record { reading = in_word hs (115 ∷ 111 ∷ 109 ∷ 101 ∷ []); reached = (in_word hs (115 ∷ []), refl, told _ _, (in_word hs (115 ∷ 111 ∷ []), refl, refl, (in_word hs (115 ∷ 111 ∷ 109 ∷ []), refl, refl, (in_word hs (115 ∷ 111 ∷ 109 ∷ 101 ∷ []), refl, refl, refl)))); within = (let k : 4 < suc (suc (suc (suc (suc (length more))))) = omega arith in k); positive = (let k : 0 < 5 = omega arith in k); shallow = refl; ends = refl }
+  by-word Ljf (true_unit Positive) more is = record { reading = in_word hs (116 ∷ 116 ∷ []); reached = (in_word hs (116 ∷ []), refl, told _ _, (in_word hs (116 ∷ 116 ∷ []), refl, refl, refl)); within = (let k : 2 < suc (suc (suc (length more))) = omega arith in k); positive = (let k : 0 < 3 = omega arith in k); shallow = refl; ends = refl }
+  by-word Ljf (true_unit Negative) more is = record { reading = in_word hs (116 ∷ 116 ∷ []); reached = (in_word hs (116 ∷ []), refl, told _ _, (in_word hs (116 ∷ 116 ∷ []), refl, refl, refl)); within = (let k : 2 < suc (suc (suc (length more))) = omega arith in k); positive = (let k : 0 < 3 = omega arith in k); shallow = refl; ends = refl }
+  by-word Ljf (false_unit Positive) more is = record { reading = in_word hs (102 ∷ []); reached = (in_word hs (102 ∷ []), refl, told _ _, refl); within = (let k : 1 < suc (suc (length more)) = omega arith in k); positive = (let k : 0 < 2 = omega arith in k); shallow = refl; ends = refl }
+  by-word Ljf (binder every) more is = record { reading = in_word hs (97 ∷ 108 ∷ 108 ∷ []); reached = (in_word hs (97 ∷ []), refl, told _ _, (in_word hs (97 ∷ 108 ∷ []), refl, refl, (in_word hs (97 ∷ 108 ∷ 108 ∷ []), refl, refl, refl))); within = (let k : 3 < suc (suc (suc (suc (length more)))) = omega arith in k); positive = (let k : 0 < 4 = omega arith in k); shallow = refl; ends = refl }
+  by-word Ljf (binder some) more is = record { reading = in_word hs (115 ∷ 111 ∷ 109 ∷ 101 ∷ []); reached = (in_word hs (115 ∷ []), refl, told _ _, (in_word hs (115 ∷ 111 ∷ []), refl, refl, (in_word hs (115 ∷ 111 ∷ 109 ∷ []), refl, refl, (in_word hs (115 ∷ 111 ∷ 109 ∷ 101 ∷ []), refl, refl, refl)))); within = (let k : 4 < suc (suc (suc (suc (suc (length more))))) = omega arith in k); positive = (let k : 0 < 5 = omega arith in k); shallow = refl; ends = refl }
+  by-word Ljf (false_unit Negative) more is = cc
+
+  word-read : (logic : Logic) (bytes : List ℕ) (w : Word) (n : ℕ) → IsWordAt logic bytes w n → IsWordRead number logic hs bytes w n
+  word-read logic bytes w n h = rw (h.1, h.2.1) (by-word logic w h.2.0 h.0)
+
+  pub word-stop : (logic : Logic) (bytes : List ℕ) (w : Word) (n : ℕ) (result : Result progress.Progress TokenRefusal) (r : PlainReader) → IsWordAt logic bytes w n → IsNext logic 0 result r (after_word hs w)
+      → IsStop number logic (at_formula hs) bytes (n - 1) result r
+  word-stop logic bytes w n result r h answer =
+      let a = word-read logic bytes w n h in
+      record {
+        reading = a.reading;
+        reached = a.reached;
+        within = a.within;
+        answer = subst (λ m. IsNext logic m result r (next number logic a.reading (slice_index bytes (n - 1)))) (sym a.shallow) (subst (IsNext logic 0 result r) (sym a.ends) answer);
+      }
+
+-- what comes behind a unit
+after-unit : (unit : Node) → is_unit unit ≡ true → after_word [] (unit_word unit) ≡ on (behind_formula [] (formula_of (unit ∷ [])))
+after-unit (True p) is = refl
+after-unit (False p) is = refl
+after-unit (Atom positive name arguments) is = cc
+after-unit (And p) is = cc
+after-unit (Or p) is = cc
+after-unit Implies is = cc
+after-unit ForAll is = cc
+after-unit Exists is = cc
+after-unit (Inside cell) is = cc
+
+-- the reading of a reader that begins the outermost formula
+at-start : (logic : Logic) (q : Reading) (r : PlainReader) → Stands logic q r → r.mode ≡ mode.TheVariants.AtFormula → length (built.holes_in r.formula) ≡ 0 → q ≡ at_formula []
+at-start logic (at_formula []) r h e d = refl
+at-start logic (at_formula (g ∷ hs)) r h e d =
+    let k : length (built_holes (g ∷ hs)) ≡ 0 = rw h.formula at d in
+    let l = length-built_holes (g ∷ hs) in
+    let no : ⊥ = omega arith in
+    absurd no
+at-start logic (behind_formula hs f) r h e d = let m = h.mode in let no : ⊥ = cc in absurd no
+at-start logic (at_term up) r h e d = let m = h.mode in let no : ⊥ = cc in absurd no
+at-start logic (in_word hs w) r h e d = let m = h.mode in let no : ⊥ = cc in absurd no
+at-start logic (at_name hs positive) r h e d = let m = h.mode in let no : ⊥ = cc in absurd no
+at-start logic (in_name hs positive w) r h e d = let m = h.mode in let no : ⊥ = cc in absurd no
+at-start logic (in_operator hs a w) r h e d = let m = h.mode in let no : ⊥ = cc in absurd no
+at-start logic (in_function up w) r h e d = let m = h.mode in let no : ⊥ = cc in absurd no
+at-start logic (at_eigen up) r h e d = let m = h.mode in let no : ⊥ = cc in absurd no
+at-start logic (in_eigen up k) r h e d = let m = h.mode in let no : ⊥ = cc in absurd no
+at-start logic (at_index up) r h e d = let m = h.mode in let no : ⊥ = cc in absurd no
+at-start logic (in_index up k) r h e d = let m = h.mode in let no : ⊥ = cc in absurd no
+at-start logic (behind_term up t) r h e d = let m = h.mode in let no : ⊥ = cc in absurd no
+
+-- the line of a unit
+module _ (number : List ℕ → ℕ) (logic : Logic) (bytes : List ℕ) (unit : Node) (n : ℕ) (result : Result progress.Progress TokenRefusal) (r : PlainReader) (answer : IsNext logic 0 result r (whole_formula (formula_of (unit ∷ [])))) where
+  unit-stop : IsUnitLine logic bytes unit n → IsStop number logic (at_formula []) bytes n result r
+  unit-stop h =
+      let a = word-read number [] (let k : 0 < 10000 = omega arith in k) logic bytes (unit_word unit) n h.1 in
+      let f = formula_of (unit ∷ []) in
+      let free : limit_of a.reading (behind_formula [] f) ≡ None = rw a.shallow refl in
+      let one : Reaches number logic a.reading (slice_index bytes (n - 1) ∷ []) (behind_formula [] f) = (behind_formula [] f, a.ends ∙ after-unit unit h.0, free, refl) in
+      record {
+        reading = behind_formula [] f;
+        reached = reaches-last number logic (at_formula []) a.reading (behind_formula [] f) bytes n a.positive a.within a.reached one;
+        within = h.2;
+        answer = rw h.3 answer;
+      }
+
+  unended : result ≡ Ok progress.TheVariants.Going → ⊥
+  unended e = subst (λ x. IsNext logic 0 x r (whole_formula (formula_of (unit ∷ [])))) e answer
+
+  pub unit-run : (q : Reading) → Stands logic q r → r.mode ≡ mode.TheVariants.AtFormula → length (built.holes_in r.formula) ≡ 0 → IsUnitLine r.logic bytes unit n → IsRun number logic q bytes n result r
+  unit-run q h e d found =
+      let at = at-start logic q r h e d in
+      run-stop number logic q bytes n result r unended (subst (λ s. IsStop number logic s bytes n result r) (sym at) (unit-stop (subst (λ l. IsUnitLine l bytes unit n) h.logic_is found)))
 
 -- a word leaves the line unended
 pub word-goes_on : (logic : Logic) (n : ℕ) (r : PlainReader) (hs : List Hole) (w : Word) (p : progress.Progress) → IsNext logic n (Ok p) r (after_word hs w) → IsNext logic n (Ok progress.TheVariants.Going) r (after_word hs w)
@@ -173,7 +253,7 @@ module _ (number : List ℕ → ℕ) (hs : List Hole) (bytes : List ℕ) (n : �
   pub bare-ends : length hs < 10000 → EndsName number Lkf hs true bytes n (at_formula hs)
   bare-ends shallow = record {
     reading = in_word hs (take n bytes);
-    reached = name-reached number Lkf (at_formula hs) (in_word hs) (Names-word number hs) (record { first = λ b. not-told hs shallow _ _; later = λ w v short. in_limit v _ _ short }) (take n bytes) at.name few;
+    reached = name-reached number Lkf (at_formula hs) (in_word hs) (Names-word number hs) (record { first = λ b. told number hs shallow _ _; later = λ w v short. in_limit v _ _ short }) (take n bytes) at.name few;
     shallow = refl;
     ends = λ k. cond-false (is_name_byte (slice_index bytes n)) _ _ at.behind ∙ ap (end_word number hs (take n bytes) (slice_index bytes n)) (no_word (take n bytes) (slice_index bytes n) k);
   }

@@ -72,7 +72,7 @@ in_limit v x y few = let t : nat_lt 255 (length v) ≡ false = grind (arith, nat
 untold-function : (up : Around) → IsUntold (at_term up) (in_function up)
 untold-function up = record { first = λ b. refl; later = λ w v few. in_limit v _ _ few }
 
-run-stop : (number : List ℕ → ℕ) (logic : Logic) (q : Reading) (bytes : List ℕ) (n : ℕ) (result : Result progress.Progress TokenRefusal) (r : PlainReader) → (result ≡ Ok progress.TheVariants.Going → ⊥)
+pub run-stop : (number : List ℕ → ℕ) (logic : Logic) (q : Reading) (bytes : List ℕ) (n : ℕ) (result : Result progress.Progress TokenRefusal) (r : PlainReader) → (result ≡ Ok progress.TheVariants.Going → ⊥)
     → IsStop number logic q bytes n result r → IsRun number logic q bytes n result r
 run-stop number logic q bytes n (Ok progress.TheVariants.Going) r other h = absurd (other refl)
 run-stop number logic q bytes n (Ok (progress.TheVariants.Term t)) r other h = h

@@ -1,12 +1,14 @@
 -- Words, names and connectives at the front of some bytes.
-use Rattle.std.specs.Prelude.{◌≡◌, ℕ, ◌≤◌, Bool, true, false, if◌then◌else◌, nat_eq, List, [], ◌∷◌, ◌++◌, length, take, slice_index}
+use Rattle.std.specs.Prelude.{◌≡◌, ℕ, ◌<◌, ◌≤◌, Bool, true, false, if◌then◌else◌, nat_eq, List, [], ◌∷◌, ◌++◌, length, take, slice_index}
 use Rattle.fpc_terms.specs.Name.{begins_name, is_name_byte, is_keyword}
 use Rattle.fpc_terms.specs.Term.{no_args}
 use Rattle.polarised_formulas.specs.declared.logic.Logic.{Logic}
 use Rattle.polarised_formulas.specs.declared.logic.Logic.TheVariants.{Lkf, Ljf}
 use Rattle.polarised_formulas.specs.declared.logic.Polarity.TheVariants.{Positive, Negative}
+use Rattle.polarised_formulas.specs.declared.node.Node.{Node}
+use Rattle.polarised_formulas.specs.declared.node.Node.TheVariants.{True, False}
 use Rattle.polarised_formulas.specs.Formula.{atom}
-use Rattle.polarised_formulas.specs.PlainReading.{Operator, conjunction, disjunction, implication, link_text, Word, true_unit, false_unit, binder, word_text, Hole, in_atom, Reading, at_term, on, next, end_formula, end_name}
+use Rattle.polarised_formulas.specs.PlainReading.{Operator, conjunction, disjunction, implication, link_text, every, Word, true_unit, false_unit, binder, word_text, Hole, in_atom, Reading, at_term, on, next, end_formula, end_name}
 use Rattle.polarised_formulas.specs.PlainLimits.{nesting}
 use Rattle.polarised_formulas.specs.PlainRuns.{Reaches}
 
@@ -21,6 +23,22 @@ is_word Ljf (binder q) = true
 -- the bytes begin with the text of the word, which is one of the logic's and has so many
 abbrev pub IsWordAt : Logic → List ℕ → Word → ℕ → Type 0
 IsWordAt logic bytes w n = (is_word logic w ≡ true) × (n ≡ length (word_text logic w)) × ((more : List ℕ) × (bytes ≡ word_text logic w ++ more))
+
+-- the node is that of a unit
+abbrev pub is_unit : Node → Bool
+is_unit (True p) = true
+is_unit (False p) = true
+is_unit _ = false
+
+-- the word of a unit
+abbrev pub unit_word : Node → Word
+unit_word (True p) = true_unit p
+unit_word (False p) = false_unit p
+unit_word _ = binder every
+
+-- the bytes begin with the text of a unit of the logic, which has so many bytes, and the end of a line
+abbrev pub IsUnitLine : Logic → List ℕ → Node → ℕ → Type 0
+IsUnitLine logic bytes node n = (is_unit node ≡ true) × IsWordAt logic bytes (unit_word node) n × (n < length bytes) × (slice_index bytes n ≡ 10)
 
 -- the operator is one of the logic's
 abbrev pub is_operator : Logic → Operator → Bool

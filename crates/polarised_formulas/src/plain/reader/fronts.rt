@@ -2,10 +2,11 @@
 ghost use Rattle.std.specs.Prelude.{◌<◌, ◌≤◌, ℕ, IfSome, length};
 ghost use Rattle.polarised_formulas.specs.declared.logic.Logic.TheVariants.{Lkf, Ljf};
 ghost use Rattle.polarised_formulas.specs.PlainStanding.{word_meant, operator_of};
-ghost use Rattle.polarised_formulas.specs.PlainFronts.{IsWordAt, IsLinkAt, IsNameAt};
+ghost use Rattle.polarised_formulas.specs.PlainFronts.{IsWordAt, IsUnitLine, IsLinkAt, IsNameAt};
 
 use crate::connective::Joiner;
 use crate::logic::{Logic, Polarity};
+use crate::node::Node;
 use crate::plain::reader::words::{Word, is_small_letter, name_bytes};
 
 /// The word that the bytes begin with, if any, and how many bytes it has.
@@ -43,6 +44,40 @@ fn ljf_word_at(bytes: &[u8]) -> Option<(Word, usize)>
         [b'f', b'f', ..] => Some((Word::False(Polarity::Positive), 2)),
         [b'a', b'l', b'l', b' ', ..] => Some((Word::All, 4)),
         [b's', b'o', b'm', b'e', b' ', ..] => Some((Word::Some, 5)),
+        _ => None,
+    }
+}
+
+/// The unit that the bytes begin with as a whole line, if any, and how many bytes it has without the
+/// end of the line.
+pub(crate) fn unit_line(logic: Logic, bytes: &[u8]) -> Option<(Node, usize)>
+    ensures { IfSome result (λ r. IsUnitLine logic bytes.now r.0 r.1) }
+{
+    match logic {
+        Logic::Lkf => lkf_unit_line(bytes),
+        Logic::Ljf => ljf_unit_line(bytes),
+    }
+}
+
+fn lkf_unit_line(bytes: &[u8]) -> Option<(Node, usize)>
+    ensures { IfSome result (λ r. IsUnitLine Lkf bytes.now r.0 r.1) }
+{
+    match bytes {
+        [b't', b't', b'+', b'\n', ..] => Some((Node::True(Polarity::Positive), 3)),
+        [b't', b't', b'-', b'\n', ..] => Some((Node::True(Polarity::Negative), 3)),
+        [b'f', b'f', b'+', b'\n', ..] => Some((Node::False(Polarity::Positive), 3)),
+        [b'f', b'f', b'-', b'\n', ..] => Some((Node::False(Polarity::Negative), 3)),
+        _ => None,
+    }
+}
+
+fn ljf_unit_line(bytes: &[u8]) -> Option<(Node, usize)>
+    ensures { IfSome result (λ r. IsUnitLine Ljf bytes.now r.0 r.1) }
+{
+    match bytes {
+        [b't', b't', b'+', b'\n', ..] => Some((Node::True(Polarity::Positive), 3)),
+        [b't', b't', b'-', b'\n', ..] => Some((Node::True(Polarity::Negative), 3)),
+        [b'f', b'f', b'\n', ..] => Some((Node::False(Polarity::Positive), 2)),
         _ => None,
     }
 }

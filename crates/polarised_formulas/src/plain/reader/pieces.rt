@@ -97,7 +97,7 @@ impl PlainReader {
         let logic = self.logic;
         match logic {
             Logic::Lkf => self.bare_piece(names, bytes),
-            Logic::Ljf => self.one_byte(names, bytes),
+            Logic::Ljf => self.formula_byte(bytes),
         }
     }
 
@@ -112,8 +112,18 @@ impl PlainReader {
     {
         match name_at(bytes) {
             Some(n) => self.literal_piece(names, true, n, bytes),
-            None => self.one_byte(names, bytes),
+            None => self.formula_byte(bytes),
         }
+    }
+
+    /// Takes a byte where a formula comes.
+    fn formula_byte(&mut self, bytes: &[u8]) -> PlainRun
+        requires { 0 < length bytes.now }
+        ensures stop { (number : List ℕ → ℕ) (logic : Logic) (hs : List Hole) → Stands logic (at_formula hs) self.old
+            → IsStop number logic (at_formula hs) bytes.now result.passed result.last self.new }
+        ensures within { result.passed < length bytes.now }
+    {
+        stopped(0, self.at_formula(bytes[0]))
     }
 
     /// Takes a name behind the mark of a literal, with what stands behind it, or a byte.

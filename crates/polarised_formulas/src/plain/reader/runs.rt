@@ -1,18 +1,26 @@
 //! Many bytes of a line in plain form.
-ghost use Rattle.std.specs.Prelude.{◌≡◌, ℕ, ◌<◌, ◌≤◌, List, length};
+ghost use Rattle.std.specs.Prelude.{◌≡◌, ℕ, ◌<◌, ◌≤◌, [], ◌∷◌, List, true, length};
 ghost use Rattle.fpc_terms.specs.Name.{Agrees, Grows};
 ghost use Rattle.fpc_terms.specs.Adding.{AddsOnly};
+ghost use Rattle.fpc_terms.specs.Term.{Term};
 ghost use Rattle.polarised_formulas.specs.Adding.{IsPartIn};
 ghost use Rattle.polarised_formulas.specs.declared.logic.Logic.{Logic};
-ghost use Rattle.polarised_formulas.specs.PlainReading.{Reading};
-ghost use Rattle.polarised_formulas.specs.PlainStanding.{Stands};
+ghost use Rattle.polarised_formulas.specs.Formula.{formula_of};
+ghost use Rattle.polarised_formulas.specs.Unfinished.{holes_in};
+ghost use Rattle.polarised_formulas.specs.declared.plain.reader.PlainReader.{PlainReader};
+ghost use Rattle.polarised_formulas.specs.PlainReading.{Around, Reading, at_term, behind_term, whole_formula};
+ghost use Rattle.polarised_formulas.specs.PlainStanding.{Stands, IsNext};
 ghost use Rattle.polarised_formulas.specs.PlainRuns.{IsRun, IsStop};
-ghost use Rattle.polarised_formulas.specs.PlainFronts.{IsNameAt};
+ghost use Rattle.polarised_formulas.specs.PlainFronts.{is_unit, IsNameAt};
 
-use crate::plain::reader::fronts::name_at;
+use crate::formula::Formula;
+use crate::node::Node;
+use crate::plain::reader::fronts::{name_at, unit_line};
 use crate::plain::reader::{Mode, PlainReader, Progress, name_of};
 use fpc_base::refusal::TokenRefusal;
+use fpc_terms::cell::Cell;
 use fpc_terms::names::Names;
+use std::alloc::Global;
 
 /// How many bytes were passed, and the answer to the next one; `Going` where there is none.
 #[derive(Drop)]
@@ -27,9 +35,55 @@ pub(super) fn stopped(passed: usize, last: Result<Progress, TokenRefusal>) -> Pl
     PlainRun { passed, last }
 }
 
+/// The answer to the end of a line that holds a unit alone.
+fn one_unit(alloc: Global, unit: Node) -> Result<Progress, TokenRefusal>
+    requires { is_unit unit ≡ true }
+    ensures { (logic : Logic) (r : PlainReader) → IsNext logic 0 result r (whole_formula (formula_of (unit ∷ []))) }
+{
+    let _cell: Option<Cell> = None;
+    let mut nodes = Vec::new(alloc);
+    match nodes.push(unit) {
+        Ok(()) => Ok(Progress::Formula(Formula::from_node_list(nodes))),
+        Err(_) => Err(TokenRefusal::OutOfMemory),
+    }
+}
+
 impl PlainReader {
     /// Takes bytes of the line up to one that ends it or isn't taken, or all of them.
     pub fn bytes(&mut self, names: &mut Names, bytes: &[u8]) -> PlainRun
+        ensures grows { Grows names.old names.new }
+        ensures only { (number : List ℕ → ℕ) (logic : Logic) (q : Reading) → Agrees number names.new → Stands logic q self.old
+            → AddsOnly (IsPartIn self.old.word.items bytes.now) names.old names.new }
+        ensures run { (number : List ℕ → ℕ) (logic : Logic) (q : Reading) → Agrees number names.new → Stands logic q self.old
+            → IsRun number logic q bytes.now result.passed result.last self.new }
+        ensures within { result.passed ≤ length bytes.now }
+    {
+        if self.mode == Mode::AtFormula && self.formula.depth() == 0 {
+            self.begun_line(names, bytes)
+        } else {
+            self.pieces(names, bytes)
+        }
+    }
+
+    /// Takes bytes where the outermost formula comes.
+    fn begun_line(&mut self, names: &mut Names, bytes: &[u8]) -> PlainRun
+        requires mode { self.old.mode ≡ Mode.AtFormula }
+        requires alone { length (holes_in self.old.formula) ≡ 0 }
+        ensures grows { Grows names.old names.new }
+        ensures only { (number : List ℕ → ℕ) (logic : Logic) (q : Reading) → Agrees number names.new → Stands logic q self.old
+            → AddsOnly (IsPartIn self.old.word.items bytes.now) names.old names.new }
+        ensures run { (number : List ℕ → ℕ) (logic : Logic) (q : Reading) → Agrees number names.new → Stands logic q self.old
+            → IsRun number logic q bytes.now result.passed result.last self.new }
+        ensures within { result.passed ≤ length bytes.now }
+    {
+        match unit_line(self.logic, bytes) {
+            Some((unit, n)) => stopped(n, one_unit(self.alloc, unit)),
+            None => self.pieces(names, bytes),
+        }
+    }
+
+    /// Takes bytes piece by piece.
+    fn pieces(&mut self, names: &mut Names, bytes: &[u8]) -> PlainRun
         ensures grows { Grows names.old names.new }
         ensures only { (number : List ℕ → ℕ) (logic : Logic) (q : Reading) → Agrees number names.new → Stands logic q self.old
             → AddsOnly (IsPartIn self.old.word.items bytes.now) names.old names.new }
@@ -70,6 +124,7 @@ impl PlainReader {
             Mode::AtName(positive) => self.marked_piece(names, positive, bytes),
             Mode::BehindFormula => self.behind_piece(bytes),
             Mode::AtTerm => self.term_piece(names, bytes),
+            Mode::BehindTerm => self.behind_term_piece(bytes),
             _ => self.one_byte(names, bytes),
         }
     }
@@ -92,14 +147,24 @@ impl PlainReader {
         requires some { 0 < length bytes.now }
         ensures grows { Grows names.old names.new }
         ensures only { AddsOnly (IsPartIn self.old.word.items bytes.now) names.old names.new }
-        ensures stop { (number : List ℕ → ℕ) (logic : Logic) (q : Reading) → Agrees number names.new → Stands logic q self.old
-            → IsStop number logic q bytes.now result.passed result.last self.new }
+        ensures stop { (number : List ℕ → ℕ) (logic : Logic) (up : Around) → Agrees number names.new → Stands logic (at_term up) self.old
+            → IsStop number logic (at_term up) bytes.now result.passed result.last self.new }
         ensures within { result.passed < length bytes.now }
     {
         match name_at(bytes) {
             Some(n) => self.named_term(names, n, bytes),
-            None => self.one_byte(names, bytes),
+            None => stopped(0, self.at_term(bytes[0])),
         }
+    }
+
+    /// Takes the byte behind a term.
+    fn behind_term_piece(&mut self, bytes: &[u8]) -> PlainRun
+        requires { 0 < length bytes.now }
+        ensures stop { (number : List ℕ → ℕ) (logic : Logic) (up : Around) (t : Term) → Stands logic (behind_term up t) self.old
+            → IsStop number logic (behind_term up t) bytes.now result.passed result.last self.new }
+        ensures within { result.passed < length bytes.now }
+    {
+        stopped(0, self.behind_term(bytes[0]))
     }
 
     /// Takes a whole name of so many bytes where a term comes, and the byte behind it.

@@ -11,7 +11,7 @@ returns-in-Err-clause-stop c = λ number logic hs shallow h.
     let w = word_meant c.args.word in
     let found = subst (λ l. IsWordAt l c.args.bytes.now w c.args.n) h.logic_is c.requires.word in
     let next = rw c.in-Err.is at c.end_word.ensures logic hs (record { logic_is = h.logic_is; outside = h.outside; terms = h.terms; formula = h.formula }) in
-    rw c.stopped.ensures (word-stop number hs shallow (Err c.in-Err.refusal) c.end_word.new.self logic c.args.bytes.now w c.args.n found next)
+    rw c.stopped.ensures (word-stop number hs shallow logic c.args.bytes.now w c.args.n (Err c.in-Err.refusal) c.end_word.new.self found next)
 
 pub returns-clause-stop : goal.returns-clause-stop
 returns-clause-stop c = λ number logic hs shallow h.
@@ -19,4 +19,4 @@ returns-clause-stop c = λ number logic hs shallow h.
     let found = subst (λ l. IsWordAt l c.args.bytes.now w c.args.n) h.logic_is c.requires.word in
     let next = rw c.in_default.is at c.end_word.ensures logic hs (record { logic_is = h.logic_is; outside = h.outside; terms = h.terms; formula = h.formula }) in
     c.behind_word.ensures.stop number logic (at_formula hs)
-    (word-stop number hs shallow (Ok progress.TheVariants.Going) c.end_word.new.self logic c.args.bytes.now w c.args.n found (word-goes_on logic 0 c.end_word.new.self hs w c.in_default.field-0 next))
+    (word-stop number hs shallow logic c.args.bytes.now w c.args.n (Ok progress.TheVariants.Going) c.end_word.new.self found (word-goes_on logic 0 c.end_word.new.self hs w c.in_default.field-0 next))
