@@ -90,9 +90,11 @@ enum Beginning {
     Letter,
 }
 
-/// A term or a formula in plain form that is read byte by byte. Each byte takes constant time, averaged over the line, but
-/// for the look-up of a name at its end; the byte that ends the line takes time linear in it. Memory is linear in the line
-/// so far. Behind an error, or a line that has ended, nothing is said of a byte until the next line begins.
+/// A term or a formula in plain form that is read byte by byte, or in larger parts where they lie
+/// whole in the bytes at hand. Each byte takes constant time, averaged over the line, but for the
+/// look-up of a name at its end; the byte that ends the line of a term takes time linear in it.
+/// Memory is linear in the longest line so far. Behind an error, or a line that has ended, nothing is
+/// said of a byte until the next line begins.
 #[derive(Drop)]
 pub struct PlainReader {
     alloc: Global,

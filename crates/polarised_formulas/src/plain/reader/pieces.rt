@@ -56,7 +56,7 @@ impl PlainReader {
         self.behind_word(n, bytes)
     }
 
-    /// Behind a word, which ends at a place, takes what stands there where it is a unit.
+    /// Takes what stands behind a word of so many bytes, where it is a unit.
     fn behind_word(&mut self, n: usize, bytes: &[u8]) -> PlainRun
         requires some { 0 < n }
         requires within { n ≤ length bytes.now }
@@ -71,7 +71,7 @@ impl PlainReader {
         }
     }
 
-    /// Takes what stands behind a unit, which ends at a place.
+    /// Takes what stands behind a unit of so many bytes.
     fn behind_unit(&mut self, n: usize, bytes: &[u8]) -> PlainRun
         requires mode { self.old.mode ≡ Mode.BehindFormula }
         requires some { 0 < n }

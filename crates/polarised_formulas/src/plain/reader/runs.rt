@@ -29,6 +29,7 @@ pub struct PlainRun {
     pub last: Result<Progress, TokenRefusal>,
 }
 
+/// The run that ends so.
 pub(super) fn stopped(passed: usize, last: Result<Progress, TokenRefusal>) -> PlainRun
     ensures { result ≡ record { passed = passed; last = last } }
 {
@@ -65,7 +66,7 @@ impl PlainReader {
         }
     }
 
-    /// Takes bytes where the outermost formula comes.
+    /// Takes bytes where the outermost formula comes: the line of a unit at once.
     fn begun_line(&mut self, names: &mut Names, bytes: &[u8]) -> PlainRun
         requires mode { self.old.mode ≡ Mode.AtFormula }
         requires alone { length (holes_in self.old.formula) ≡ 0 }
