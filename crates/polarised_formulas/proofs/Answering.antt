@@ -74,6 +74,14 @@ parting (first_of ∷ hs) f = parts_in hs f refl refl refl
 parting (second_of o a ∷ hs) f = closes_in refl refl
 parting (under q ∷ hs) f = subst (λ g. Parting (built.left_of g (built_holes hs)) (end_formula hs (quantified q f) 32)) (sym (bind-binder_of q f)) (parting hs (quantified q f))
 
+-- no formula is the first and the second part of a pair
+not-both : (u : built.Unfinished) → built.takes_joiner u ≡ true → built.takes_close u ≡ true → ⊥
+not-both (built.wants gs) t c = cc
+not-both (built.has g []) t c = cc
+not-both (built.has g (built.first_of ∷ gs)) t c = cc
+not-both (built.has g (built.second_of j a ∷ gs)) t c = cc
+not-both (built.has g (built.under q ∷ gs)) t c = cc
+
 -- a whole formula in front of the end of a line
 data Ending (u : built.Unfinished) (n : Next) : Type 0 where
   ends : (f : Formula) → built.whole u ≡ Some f → n ≡ whole_formula f → Ending u n
@@ -141,6 +149,22 @@ module _ (logic : Logic) (hs : List Hole) (f : Formula) (old : PlainReader) (h :
       by (parts_in gs g c u n) = let no : suc (length (built_holes gs)) ≡ 0 = rw u at d in absurd (let z : ⊥ = omega arith in z)
       by (closes_in c n) = rw n refl
       by (bare g u n) = rw n refl
+
+  pub links-pair : built.takes_joiner (built.left old.formula) ≡ true → (gs : List Hole) × (g : Formula) × (built.left old.formula ≡ built.has g (built.first_of ∷ built_holes gs)) × (end_formula hs f 32 ≡ on (in_operator gs g []))
+  links-pair t = by (subst (λ u. Parting u (end_formula hs f 32)) (sym here) (parting hs f))
+    where
+      by : Parting (built.left old.formula) (end_formula hs f 32) → (gs : List Hole) × (g : Formula) × (built.left old.formula ≡ built.has g (built.first_of ∷ built_holes gs)) × (end_formula hs f 32 ≡ on (in_operator gs g []))
+      by (parts_in gs g c u n) = (gs, g, u, n)
+      by (closes_in c n) = absurd (not-both (built.left old.formula) t c)
+      by (bare g u n) = let no : ⊥ = cc in absurd no
+
+  pub links-none : built.takes_joiner (built.left old.formula) ≡ false → end_formula hs f 32 ≡ wrong
+  links-none t = by (subst (λ u. Parting u (end_formula hs f 32)) (sym here) (parting hs f))
+    where
+      by : Parting (built.left old.formula) (end_formula hs f 32) → end_formula hs f 32 ≡ wrong
+      by (parts_in gs g c u n) = let no : ⊥ = cc in absurd no
+      by (closes_in c n) = n
+      by (bare g u n) = n
 
   pub ends-line : (g : Formula) (new : PlainReader) → Some g ≡ built.whole (built.left old.formula) → IsNext logic 0 (Ok (progress.TheVariants.Formula g)) new (end_formula hs f 10)
   ends-line g new w = by (subst (λ u. Ending u (end_formula hs f 10)) (sym here) (ending hs f))

@@ -22,13 +22,13 @@ named Lkf hs false w = in_name hs false w
 named Ljf hs positive w = in_name hs positive w
 
 module _ (number : List ℕ → ℕ) where
-  Names-word : (hs : List Hole) → Names number Lkf (at_formula hs) (in_word hs)
+  pub Names-word : (hs : List Hole) → Names number Lkf (at_formula hs) (in_word hs)
   Names-word hs = record {
     first = λ b h. cond-false (nat_eq b 40) _ _ (small_above b 40 h (omega arith)) ∙ cond-false (nat_eq b 126) _ _ (small_below b 126 h (omega arith)) ∙ cond-true (is_small_letter b) _ _ h;
     later = λ w b h. cond-true (is_name_byte b) _ _ h;
   }
 
-  Names-mark : (logic : Logic) (hs : List Hole) (positive : Bool) → Names number logic (at_name hs positive) (in_name hs positive)
+  pub Names-mark : (logic : Logic) (hs : List Hole) (positive : Bool) → Names number logic (at_name hs positive) (in_name hs positive)
   Names-mark logic hs positive = record { first = λ b h. cond-true (is_small_letter b) _ _ h; later = λ w b h. cond-true (is_name_byte b) _ _ h }
 
   run-mark : (logic : Logic) (hs : List Hole) (positive : Bool) (w rest : List ℕ) → begins_name w ≡ true

@@ -140,7 +140,7 @@ module _ (number : List ℕ → ℕ) (logic : Logic) where
   index-begins : (up : Around) (k : ℕ) → k < depth_around up → (rest : List ℕ) → run number logic (on (at_term up)) (35 ∷ rest) ≡ run number logic (on (at_index up)) rest
   index-begins up k l rest = ap (λ n. run number logic n rest) (cond-true (nat_lt 0 (depth_around up)) _ _ (tested 0 (depth_around up) (omega arith)))
 
-  Names-function : (up : Around) → Names (at_term up) (in_function up)
+  pub Names-function : (up : Around) → Names (at_term up) (in_function up)
   Names-function up = record {
     first = λ b h. cond-false (nat_eq b 36) _ _ (small_above b 36 h (omega arith)) ∙ cond-false (nat_eq b 35) _ _ (small_above b 35 h (omega arith)) ∙ cond-true (is_small_letter b) _ _ h;
     later = λ w b h. cond-true (is_name_byte b) _ _ h;

@@ -80,3 +80,4 @@ pub mod AtFacts
 pub mod HeldFacts
 pub mod ArgumentFacts
 pub mod PlainRuns
+pub mod PlainPieces

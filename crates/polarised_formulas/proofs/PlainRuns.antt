@@ -1,5 +1,5 @@
 -- Many bytes of a term or a formula, piece by piece.
-use Rattle.std.proofs.Common.{◌≡◌, ℕ, suc, ◌+◌, ◌<◌, ◌≤◌, Bool, true, false, if◌then◌else◌, List, [], ◌∷◌, ◌++◌, length, take, drop, None, Result, Ok, Err, refl, sym, ap, ◌∙◌, subst, arith, nat_eq, nat_lt, append_assoc, append-nil}
+use Rattle.std.proofs.Common.{◌≡◌, ℕ, suc, ◌+◌, ◌<◌, ◌≤◌, Bool, true, false, if◌then◌else◌, List, [], ◌∷◌, ◌++◌, length, take, drop, None, Result, Ok, Err, refl, sym, ap, ◌∙◌, subst, arith, nat_lt, append_assoc, append-nil}
 use Rattle.std.specs.Prelude.{slice_index}
 use Rattle.std.specs.List.{list_all, prefix_len}
 use Rattle.std.proofs.lemmas.Bool.{and_parts, and_from, or_left, cond-true, cond-false}
@@ -17,11 +17,11 @@ use Rattle.polarised_formulas.specs.declared.plain.reader.Mode as mode
 use Rattle.polarised_formulas.specs.declared.plain.reader.PlainReader.{PlainReader}
 use Rattle.polarised_formulas.specs.Adding.{EndsWith, IsPartIn}
 use Rattle.polarised_formulas.specs.PlainReading.{Around, Reading, at_formula, in_word, at_name, in_name, behind_formula, in_operator, at_term, in_function, at_eigen, in_eigen, at_index, in_index, behind_term, Next, on, whole_term, whole_formula, wrong, next, end_function}
-use Rattle.polarised_formulas.specs.PlainLimits.{nesting}
+use Rattle.polarised_formulas.specs.PlainLimits.{nesting, limit_of}
 use Rattle.polarised_formulas.specs.PlainStanding.{Stands, IsAround, IsNext, limit_at, word_at}
 use Rattle.polarised_formulas.specs.PlainRuns.{Reaches, IsStop, IsPassed, IsRun}
 use Rattle.polarised_formulas.proofs.Following.{Follows, follows-next}
-use Rattle.polarised_formulas.proofs.Forward.{small_above}
+use Rattle.polarised_formulas.proofs.Forward.{Names, Names-function}
 use Rattle.polarised_formulas.proofs.Standing.{Agrees-grows}
 
 -- bytes behind others
@@ -37,48 +37,57 @@ reaches-word number logic (b ∷ bytes) before q s e h =
     (reaches-word number logic bytes (before ++ b ∷ []) h.0 s (subst (Follows (before ++ b ∷ [])) h.1 (follows-next number before b logic q e)) h.3)
 
 -- a byte after which the reading goes on
-went-on : (logic : Logic) (n : ℕ) (r : PlainReader) (x : Next) → IsNext logic n (Ok progress.TheVariants.Going) r x → (s : Reading) × (x ≡ on s) × Stands logic s r × (limit_at n s ≡ None)
+pub went-on : (logic : Logic) (n : ℕ) (r : PlainReader) (x : Next) → IsNext logic n (Ok progress.TheVariants.Going) r x → (s : Reading) × (x ≡ on s) × Stands logic s r × (limit_at n s ≡ None)
 went-on logic n r (on s) h = (s, refl, h.0, h.1)
 went-on logic n r (whole_term t) h = absurd h
 went-on logic n r (whole_formula f) h = absurd h
 went-on logic n r wrong h = absurd h
 
--- a name where a term comes
-module _ (number : List ℕ → ℕ) (logic : Logic) (up : Around) where
-  more-letters : (w bs : List ℕ) → list_all is_name_byte bs ≡ true → length (w ++ bs) ≤ 255 → Reaches number logic (in_function up w) bs (in_function up (w ++ bs))
-  more-letters w [] all few = ap (in_function up) (sym (append-nil w))
+-- nothing is told of the bytes of a name that is not too long
+pub record IsUntold (start : Reading) (inside : List ℕ → Reading) : Type 0 where
+  pub first : (b : ℕ) → limit_of start (inside (b ∷ [])) ≡ None
+  pub later : (w v : List ℕ) → length v ≤ 255 → limit_of (inside w) (inside v) ≡ None
+
+-- a whole name
+module _ (number : List ℕ → ℕ) (logic : Logic) (start : Reading) (inside : List ℕ → Reading) (names : Names number logic start inside) (untold : IsUntold start inside) where
+  more-letters : (w bs : List ℕ) → list_all is_name_byte bs ≡ true → length (w ++ bs) ≤ 255 → Reaches number logic (inside w) bs (inside (w ++ bs))
+  more-letters w [] all few = ap inside (sym (append-nil w))
   more-letters w (b ∷ bs) all few =
       let p = and_parts (is_name_byte b) (list_all is_name_byte bs) all in
       let same = append_assoc w (b ∷ []) bs in
-      let short : length (w ++ b ∷ []) ≤ 255 = omega (arith, length-append w (b ∷ bs), length-append w (b ∷ []), few) in
-      let t : nat_lt 255 (length (w ++ b ∷ [])) ≡ false = grind (arith, nat_tests) in (
-        in_function up (w ++ b ∷ []),
-        cond-true (is_name_byte b) _ _ p.0,
-        cond-false (nat_lt 255 (length (w ++ b ∷ []))) _ _ t,
-        subst (λ v. Reaches number logic (in_function up (w ++ b ∷ [])) bs (in_function up v)) same (more-letters (w ++ b ∷ []) bs p.1 (subst (λ v. length v ≤ 255) (sym same) few)),
+      let short : length (w ++ b ∷ []) ≤ 255 = omega (arith, length-append w (b ∷ bs), length-append w (b ∷ []), few) in (
+        inside (w ++ b ∷ []),
+        names.later w b p.0,
+        untold.later w (w ++ b ∷ []) short,
+        subst (λ v. Reaches number logic (inside (w ++ b ∷ [])) bs (inside v)) same (more-letters (w ++ b ∷ []) bs p.1 (subst (λ v. length v ≤ 255) (sym same) few)),
       )
 
-  pub name-reached : (w : List ℕ) → begins_name w ≡ true → length w ≤ 255 → Reaches number logic (at_term up) w (in_function up w)
+  pub name-reached : (w : List ℕ) → begins_name w ≡ true → length w ≤ 255 → Reaches number logic start w (inside w)
   name-reached [] h few = cc
-  name-reached (b ∷ bs) h few =
-      let p = and_parts (is_small_letter b) (list_all is_name_byte bs) h in (
-        in_function up (b ∷ []),
-        cond-false (nat_eq b 36) _ _ (small_above b 36 p.0 (omega arith)) ∙ cond-false (nat_eq b 35) _ _ (small_above b 35 p.0 (omega arith)) ∙ cond-true (is_small_letter b) _ _ p.0,
-        refl,
-        more-letters (b ∷ []) bs p.1 few,
-      )
+  name-reached (b ∷ bs) h few = let p = and_parts (is_small_letter b) (list_all is_name_byte bs) h in (inside (b ∷ []), names.first b p.0, untold.first b, more-letters (b ∷ []) bs p.1 few)
 
-run-stop : (number : List ℕ → ℕ) (logic : Logic) (q : Reading) (bytes : List ℕ) (n : ℕ) (result : Result progress.Progress TokenRefusal) (r : PlainReader) → (result ≡ Ok progress.TheVariants.Going → ⊥)
+pub in_limit : {X : Type 0} (v : List ℕ) (x y : X) → length v ≤ 255 → (if nat_lt 255 (length v) then x else y) ≡ y
+in_limit v x y few = let t : nat_lt 255 (length v) ≡ false = grind (arith, nat_tests) in cond-false (nat_lt 255 (length v)) x y t
+
+untold-function : (up : Around) → IsUntold (at_term up) (in_function up)
+untold-function up = record { first = λ b. refl; later = λ w v few. in_limit v _ _ few }
+
+pub run-stop : (number : List ℕ → ℕ) (logic : Logic) (q : Reading) (bytes : List ℕ) (n : ℕ) (result : Result progress.Progress TokenRefusal) (r : PlainReader) → (result ≡ Ok progress.TheVariants.Going → ⊥)
     → IsStop number logic q bytes n result r → IsRun number logic q bytes n result r
 run-stop number logic q bytes n (Ok progress.TheVariants.Going) r other h = absurd (other refl)
 run-stop number logic q bytes n (Ok (progress.TheVariants.Term t)) r other h = h
 run-stop number logic q bytes n (Ok (progress.TheVariants.Formula f)) r other h = h
 run-stop number logic q bytes n (Err e) r other h = h
 
-index-drop : (bytes : List ℕ) (n m : ℕ) → slice_index (drop n bytes) m ≡ slice_index bytes (n + m)
+-- the answer to the next byte
+pub next-stop : (number : List ℕ → ℕ) (logic : Logic) (q : Reading) (bytes : List ℕ) (result : Result progress.Progress TokenRefusal) (r : PlainReader) → 0 < length bytes
+    → IsNext logic (nesting q) result r (next number logic q (slice_index bytes 0)) → IsStop number logic q bytes 0 result r
+next-stop number logic q bytes result r some answer = record { reading = q; reached = refl; within = some; answer = answer }
+
+pub index-drop : (bytes : List ℕ) (n m : ℕ) → slice_index (drop n bytes) m ≡ slice_index bytes (n + m)
 index-drop bytes n m = get_or-drop n bytes m 0
 
-taken-more : (bytes : List ℕ) (n m : ℕ) → n + m < length bytes → take (n + (m + 1)) bytes ≡ take (n + m) bytes ++ slice_index bytes (n + m) ∷ []
+pub taken-more : (bytes : List ℕ) (n m : ℕ) → n + m < length bytes → take (n + (m + 1)) bytes ≡ take (n + m) bytes ++ slice_index bytes (n + m) ∷ []
 taken-more bytes n m l = let e : n + (m + 1) ≡ suc (n + m) = omega arith in ap (λ k. take k bytes) e ∙ take-suc bytes (n + m) 0 l
 
 -- the loop over pieces: what it has done when it has passed so many bytes
@@ -193,7 +202,7 @@ module _ (bytes : List ℕ) (n : ℕ) (few : n ≤ 255) (within : n < length byt
       let k : Stands logic (at_term p.0) old = subst (λ s. Stands logic s old) p.1 h in
       subst (λ s. IsStop number logic s bytes n result new) (sym p.1) (record {
         reading = in_function p.0 (take n bytes);
-        reached = name-reached number logic p.0 (take n bytes) name name-few;
+        reached = name-reached number logic (at_term p.0) (in_function p.0) (Names-function number logic p.0) (untold-function p.0) (take n bytes) name name-few;
         within = within;
         answer = subst (IsNext logic 0 result new) (sym (cond-false (is_name_byte (slice_index bytes n)) _ _ behind))
             (answer p.0 (record { logic_is = k.logic_is; word = k.word; outside = k.outside; terms = k.terms; formula = k.formula; room = k.kept }));

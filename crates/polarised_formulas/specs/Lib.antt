@@ -41,3 +41,4 @@ pub mod Held
 pub mod Grows
 pub mod ArgumentCells
 pub mod PlainRuns
+pub mod PlainFronts

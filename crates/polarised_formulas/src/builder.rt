@@ -16,6 +16,7 @@ use fpc_terms::cell::Cell;
 use fpc_terms::name::NameId;
 use std::alloc::Global;
 use std::marker::Model;
+use std::mem;
 
 /// What stands around a formula that is being built, with the place of its outermost node.
 #[derive(Clone, Copy, PartialEq, Eq, Debug)]
@@ -56,6 +57,14 @@ impl Surroundings {
             items: Vec::new(alloc),
             unders: 0,
         }
+    }
+
+    /// Takes all out. The memory is kept.
+    fn clear(&mut self)
+        ensures { self.new ≡ [] }
+    {
+        self.items.clear();
+        self.unders = 0;
     }
 
     fn len(&self) -> usize
@@ -353,17 +362,27 @@ impl FormulaBuilder {
         self.around.leave_second()
     }
 
-    /// The formula, where it is whole and no pair is open. Time and memory are linear in its size.
-    pub fn finish(self, alloc: Global) -> Result<Option<Formula>, OutOfMemory>
-        ensures { IfOk result (λ found. found ≡ whole (left self)) }
+    /// Takes all out. The memory is kept.
+    pub(crate) fn clear(&mut self)
+        ensures { self.new ≡ nothing }
+    {
+        self.nodes.clear();
+        self.around.clear();
+        self.is_whole = false;
+    }
+
+    /// The formula, where it is whole and no pair is open; then it is taken out with its nodes,
+    /// in constant time.
+    pub(crate) fn take(&mut self, alloc: Global) -> Option<Formula>
+        ensures { result ≡ whole (left self.old) }
     {
         if !self.is_whole || self.around.len() != self.around.quantifiers() {
-            return Ok(None);
+            return None;
         }
-        match Formula::from_nodes(alloc, self.nodes.as_slice()) {
-            Ok(formula) => Ok(Some(formula)),
-            Err(error) => Err(error),
-        }
+        let nodes = mem::replace(&mut self.nodes, Vec::new(alloc));
+        self.around.clear();
+        self.is_whole = false;
+        Some(Formula::from_node_list(nodes))
     }
 
     /// The formula, where it is whole and no pair is open. It takes the nodes over, in constant time.

@@ -13,6 +13,8 @@ ghost use Rattle.polarised_formulas.specs.PlainReading.{Hole, Around, alone, in_
 ghost use Rattle.polarised_formulas.specs.PlainLimits.{nesting};
 ghost use Rattle.polarised_formulas.specs.PlainStanding.{Stands, IsOutside, IsLiteral, IsNext, IsOn, IsNamed, begun, BeginsWord, word_meant, operator_of, built_holes, told_of, next_unnamed};
 
+mod fronts;
+mod pieces;
 pub mod runs;
 mod terms;
 mod words;
@@ -32,7 +34,6 @@ use fpc_terms::name::{NameId, is_name};
 use fpc_terms::names::Names;
 use fpc_terms::term::TermBuf;
 use std::alloc::Global;
-use std::mem;
 
 /// What a byte did.
 #[derive(Drop)]
@@ -89,9 +90,11 @@ enum Beginning {
     Letter,
 }
 
-/// A term or a formula in plain form that is read byte by byte. Each byte takes constant time, averaged over the line, but
-/// for the look-up of a name at its end; the byte that ends the line takes time linear in it. Memory is linear in the line
-/// so far. Behind an error, or a line that has ended, nothing is said of a byte until the next line begins.
+/// A term or a formula in plain form that is read byte by byte, or in larger parts where they lie
+/// whole in the bytes at hand. Each byte takes constant time, averaged over the line, but for the
+/// look-up of a name at its end; the byte that ends the line of a term takes time linear in it.
+/// Memory is linear in the longest line so far. Behind an error, or a line that has ended, nothing is
+/// said of a byte until the next line begins.
 #[derive(Drop)]
 pub struct PlainReader {
     alloc: Global,
@@ -155,7 +158,7 @@ impl PlainReader {
         self.mode = Mode::AtFormula;
     }
 
-    /// Takes all out. The memory of the last formula alone is given back.
+    /// Takes all out. The memory is kept.
     fn clear(&mut self)
         ensures word { self.new.word.items ≡ [] }
         ensures parts { IsOutside self.old.logic (wants []) self.new }
@@ -163,7 +166,7 @@ impl PlainReader {
         self.word.clear();
         self.outside = Outside::Nothing;
         self.terms.clear();
-        self.formula = FormulaBuilder::new(self.alloc);
+        self.formula.clear();
     }
 
     /// Takes the next byte of the line. What the numbering says of the names of the table decides what a name means.
@@ -456,11 +459,9 @@ impl PlainReader {
     fn end_formula(&mut self) -> Result<Progress, TokenRefusal>
         ensures { (logic : Logic) (hs : List Hole) (f : Formula) → Stands logic (behind_formula hs f) self.old → IsNext logic 0 result self.new (end_formula hs f 10) }
     {
-        let formula = mem::replace(&mut self.formula, FormulaBuilder::new(self.alloc));
-        match formula.finish(self.alloc) {
-            Ok(Some(formula)) => Ok(Progress::Formula(formula)),
-            Ok(None) => Err(TokenRefusal::Refused(Code::Unexpected)),
-            Err(_) => Err(TokenRefusal::OutOfMemory),
+        match self.formula.take(self.alloc) {
+            Some(formula) => Ok(Progress::Formula(formula)),
+            None => Err(TokenRefusal::Refused(Code::Unexpected)),
         }
     }
 

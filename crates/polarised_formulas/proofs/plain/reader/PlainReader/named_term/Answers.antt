@@ -21,16 +21,16 @@ returns-in-Err-clause-only c =
 pub returns-in-Ok-clause-stop : goal.returns-in-Ok-clause-stop
 returns-in-Ok-clause-stop c = λ number logic q a h.
     let w = take c.args.n c.args.bytes.now in
-    let begun : IsNameBegun w = (c.requires.name, name-few c.args.bytes.now c.args.n c.requires.few c.requires.within) in
+    let begun : IsNameBegun w = (c.requires.name.name, name-few c.args.bytes.now c.args.n c.requires.name.few c.requires.within) in
     let n = rw c.split_at.ensures.front at c.in-Ok.ensures.name number a in
     let k = named-ok number (is_keyword w) w c.in-Ok.name (n begun) in
-    named-stop c.args.bytes.now c.args.n c.requires.few c.requires.within number logic q c.args.self.now c.end_named_term.new.self c.end_named_term.result h c.requires.mode c.requires.name c.requires.behind
-    (λ up around. rw (k.0, k.1) (c.end_named_term.ensures logic up around))
+    rw c.stopped.ensures (named-stop c.args.bytes.now c.args.n c.requires.name.few c.requires.within number logic q c.args.self.now c.end_named_term.new.self c.end_named_term.result h c.requires.mode c.requires.name.name c.requires.name.behind
+    (λ up around. rw (k.0, k.1) (c.end_named_term.ensures logic up around)))
 
 pub returns-in-Err-clause-stop : goal.returns-in-Err-clause-stop
 returns-in-Err-clause-stop c = λ number logic q a h.
     let w = take c.args.n c.args.bytes.now in
-    let begun : IsNameBegun w = (c.requires.name, name-few c.args.bytes.now c.args.n c.requires.few c.requires.within) in
+    let begun : IsNameBegun w = (c.requires.name.name, name-few c.args.bytes.now c.args.n c.requires.name.few c.requires.within) in
     let n = rw c.split_at.ensures.front at c.in-Err.ensures.name number a in
-    named-stop c.args.bytes.now c.args.n c.requires.few c.requires.within number logic q c.args.self.now c.args.self.now _ h c.requires.mode c.requires.name c.requires.behind
-    (λ up around. named-err number (is_keyword w) w c.in-Err.refusal logic _ _ (n begun))
+    rw c.stopped-in-Err.ensures (named-stop c.args.bytes.now c.args.n c.requires.name.few c.requires.within number logic q c.args.self.now c.args.self.now _ h c.requires.mode c.requires.name.name c.requires.name.behind
+    (λ up around. named-err number (is_keyword w) w c.in-Err.refusal logic _ _ (n begun)))

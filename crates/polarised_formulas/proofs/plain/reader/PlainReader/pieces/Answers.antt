@@ -1,7 +1,7 @@
 use Rattle.std.proofs.Common.{◌∙◌, ap, Ok, Err, arith}
 use Rattle.polarised_formulas.specs.declared.plain.reader.Progress as progress
 use Rattle.polarised_formulas.proofs.PlainRuns.{past-next, past-run, past-adds, past-end}
-use Rattle.polarised_formulas.proofs.plain.reader.PlainReader.bytes.Goals as goal
+use Rattle.polarised_formulas.proofs.plain.reader.PlainReader.pieces.Goals as goal
 
 pub loop-passed-preserved : goal.loop-passed-preserved
 loop-passed-preserved c =
