@@ -8,16 +8,16 @@ use Rattle.polarised_formulas.proofs.closure.Closure.left.Goals as goal
 
 pub sharing-requires : goal.sharing-requires
 sharing-requires g c =
-    let nodes = nodes_of c.self.inside.tree.value in
+    let nodes = nodes_of c.self.inside.root.value.tree in
     let q : IsPair (formula_of (drop c.self.inside.from nodes)) = rw (← c.self.view_is) at c.requires in
-    let b = left_made nodes c.self.inside.from (length c.self.inside.opened) (length c.self.inside.parameters) c.self.invariant q in
+    let b = left_made nodes c.self.inside.from (length c.self.inside.opened) (length c.self.inside.root.value.parameters) c.self.invariant q in
     rw (c.next_of-from.ensures) b.at
 
 pub returns-clause-value : goal.returns-clause-value
 returns-clause-value g c =
-    let nodes = nodes_of c.self.inside.tree.value in
+    let nodes = nodes_of c.self.inside.root.value.tree in
     let q : IsPair (formula_of (drop c.self.inside.from nodes)) = rw (← c.self.view_is) at c.requires in
-    let b = left_made nodes c.self.inside.from (length c.self.inside.opened) (length c.self.inside.parameters) c.self.invariant q in
+    let b = left_made nodes c.self.inside.from (length c.self.inside.opened) (length c.self.inside.root.value.parameters) c.self.invariant q in
     rw (← c.self.view_is) (rw (c.next_of-from.ensures, b.is) at c.sharing.ensures)
 
 pub returns-clause-stands : goal.returns-clause-stands
