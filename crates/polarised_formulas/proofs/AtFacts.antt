@@ -172,16 +172,6 @@ kept-at (n ∷ []) zero h = rw (front-nil (0 + arity n))
 kept-at (n ∷ []) (suc i) h = let none : ⊥ = omega arith in absurd none
 kept-at (n ∷ m ∷ ns) i h = sizes-at (n ∷ m ∷ ns) i 1 h
 
-pub kept-none : (ns : List Node) → length ns ≤ 1 → [] ≡ kept_sizes ns
-kept-none [] h = refl
-kept-none (n ∷ []) h = refl
-kept-none (n ∷ m ∷ ns) h = let none : ⊥ = omega arith in absurd none
-
-pub kept-all : (ns : List Node) → 1 < length ns → kept_sizes ns ≡ sizes_of ns
-kept-all [] h = let none : ⊥ = omega arith in absurd none
-kept-all (n ∷ []) h = let none : ⊥ = omega arith in absurd none
-kept-all (n ∷ m ∷ ns) h = refl
-
 -- the part at a place ends within the nodes
 pub end_within : (ns : List Node) (place : ℕ) → place < length ns → place + front_length 1 (drop place ns) ≤ length ns
 end_within ns place h = omega (arith, front_le (drop place ns) 1, length-drop place ns)

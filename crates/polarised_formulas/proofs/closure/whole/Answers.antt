@@ -4,5 +4,5 @@ use Rattle.polarised_formulas.proofs.closure.whole.Goals as goal
 
 pub made-requires : goal.made-requires
 made-requires g c =
-    let t : c.in_ok-tree.tree ≡ c.args.f = search rules in
-    rw (t, c.none.ensures) (begins_root c.args.f 0 (length c.args.parameters) c.requires).at
+    let r : c.in_ok-root.root.value ≡ record { tree = c.args.f; parameters = c.args.parameters } = search rules in
+    rw (r, c.none.ensures) (begins_root c.args.f 0 (length c.args.parameters) c.requires).at
