@@ -1,5 +1,5 @@
 -- What holds of closures by tables of terms: their shapes, and how many terms they need.
-use Rattle.std.proofs.Common.{◌≡◌, ℕ, ◌≤◌, max, List, [], map, refl, arith}
+use Rattle.std.proofs.Common.{◌≡◌, ◌≤◌, max, List, [], map, refl, arith}
 use Rattle.std.specs.Prelude.{Bool, true, false, Some}
 use Rattle.fpc_terms.specs.Term.{Term, Always}
 use Rattle.polarised_formulas.specs.declared.held.Given.{Given}

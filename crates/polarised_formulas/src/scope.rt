@@ -105,9 +105,9 @@ fn is_cut_node(logic: Logic, node: Node, level: u64, depth: u64) -> bool
 /// A walk over a formula's nodes.
 #[derive(Drop)]
 struct Walk {
-    /// The depth of the literal whose cells come next, or of the whole formula at its first node.
+    /// The depth of the literal whose cells come next; at the first node, that of the whole formula.
     depth: u64,
-    /// The depths of the formulas still to come; at the first node there are none yet.
+    /// The depths of the parts still to come.
     pending: Depths,
 }
 

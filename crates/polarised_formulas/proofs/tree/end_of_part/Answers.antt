@@ -1,4 +1,4 @@
-use Rattle.std.proofs.Common.{◌≡◌, ◌+◌, length, drop, arith}
+use Rattle.std.proofs.Common.{◌≡◌, ◌+◌, drop, arith}
 use Rattle.polarised_formulas.specs.Nodes.{front_length}
 use Rattle.polarised_formulas.proofs.AtFacts.{end_within, end_value}
 use Rattle.polarised_formulas.proofs.tree.end_of_part.Goals as goal
