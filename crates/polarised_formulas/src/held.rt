@@ -21,7 +21,7 @@ pub enum Given {
 }
 
 /// A formula as a sequent holds it. It may name terms of a table.
-pub trait HeldFormula: Drop {
+pub trait HeldFormula {
     /// The formula that it stands for, by a table of terms.
     ghost stands: { List Term → Self → Formula };
 
