@@ -8,7 +8,7 @@ use Rattle.polarised_formulas.specs.Formula.{Formula, truth, falsity, atom, conj
 use Rattle.polarised_formulas.specs.Nodes.{arity, front_length}
 use Rattle.polarised_formulas.specs.Closure.{IsReached, IsAt}
 use Rattle.polarised_formulas.specs.Parts.{left_of, right_of, body_of, IsPair, IsQuantified}
-use Rattle.polarised_formulas.specs.Sizes.{sizes_of}
+use Rattle.polarised_formulas.specs.Sizes.{sizes_of, kept_sizes}
 use Rattle.polarised_formulas.proofs.PartFacts.{take-first, drop-first, length-nodes_before, node_count}
 
 pub formula-first : (f : Formula) (ns : List Node) → formula_of (nodes_before f ns) ≡ f
@@ -159,12 +159,25 @@ sizes-cons n ns = let e : 1 + front_length (arity n) ns ≡ suc (front_length (a
 pub begins_not_empty : (ns : List Node) (m p : ℕ) → IsAt ns m p → 0 < length ns
 begins_not_empty ns m p h = subst (λ (ms : List Node). 0 < length ms) h.whole (omega (arith, length-nodes_before (formula_of ns) (drop (front_length 1 ns) ns), node_count_positive (formula_of ns)))
 
+-- the size at a place of the nodes, whatever is taken where there is none
+sizes-at : (ns : List Node) (i d : ℕ) → i < length ns → get_or (sizes_of ns) i d ≡ front_length 1 (drop i ns)
+sizes-at [] i d h = let none : ⊥ = omega arith in absurd none
+sizes-at (n ∷ ns) zero d h = let e : 0 + arity n ≡ arity n = omega arith in rw e
+sizes-at (n ∷ ns) (suc i) d h = sizes-at ns i d (omega arith)
+
+-- the same of the sizes that are kept: one node is a part of size 1
+kept-at : (ns : List Node) (i : ℕ) → i < length ns → get_or (kept_sizes ns) i 1 ≡ front_length 1 (drop i ns)
+kept-at [] i h = let none : ⊥ = omega arith in absurd none
+kept-at (n ∷ []) zero h = rw (front-nil (0 + arity n))
+kept-at (n ∷ []) (suc i) h = let none : ⊥ = omega arith in absurd none
+kept-at (n ∷ m ∷ ns) i h = sizes-at (n ∷ m ∷ ns) i 1 h
+
 -- the part at a place ends within the nodes
 pub end_within : (ns : List Node) (place : ℕ) → place < length ns → place + front_length 1 (drop place ns) ≤ length ns
 end_within ns place h = omega (arith, front_le (drop place ns) 1, length-drop place ns)
 
-pub end_value : (ns : List Node) (place : ℕ) → place + get_or (sizes_of ns) place 0 ≡ place + front_length 1 (drop place ns)
-end_value ns place = rw (sizes-get ns place)
+pub end_value : (ns : List Node) (place : ℕ) → place < length ns → place + get_or (kept_sizes ns) place 1 ≡ place + front_length 1 (drop place ns)
+end_value ns place h = rw (kept-at ns place h)
 
 -- one more size, from the end
 pub sizes-fill : (ns : List Node) (ss : List ℕ) (i : ℕ) (d : Node) → i < length ns → length ss ≡ length ns → drop (i + 1) ss ≡ sizes_of (drop (i + 1) ns) →

@@ -73,24 +73,35 @@ are_cut-nodes_before l n (implies a b) d e s ns h =
 are_cut-nodes_before l n (for_all a) d e s ns h = rw (deeper-low e (omega arith), are_cut-nodes_before l n a e (suc e) s ns (omega arith))
 are_cut-nodes_before l n (exists a) d e s ns h = rw (deeper-low e (omega arith), are_cut-nodes_before l n a e (suc e) s ns (omega arith))
 
+-- the first formula is under no quantifier, whether that is told or not
+are_cut-first : (l : Logic) (n : ℕ) (f : Formula) (ns : List Node) → are_cut_nodes l n 0 [] (nodes_before f ns) ≡ are_cut_nodes l n 0 (0 ∷ []) (nodes_before f ns)
+are_cut-first l n (truth p) ns = refl
+are_cut-first l n (falsity p) ns = refl
+are_cut-first l n (atom positive name ts) ns = refl
+are_cut-first l n (conj p a b) ns = refl
+are_cut-first l n (disj p a b) ns = refl
+are_cut-first l n (implies a b) ns = refl
+are_cut-first l n (for_all a) ns = refl
+are_cut-first l n (exists a) ns = refl
+
 -- the nodes of a formula pass one by one exactly where the formula does
-pub are_cut-nodes_of : (l : Logic) (n : ℕ) (f : Formula) → length (nodes_of f) ≤ 18446744073709551615 → are_cut_nodes l n 0 (0 ∷ []) (nodes_of f) ≡ may_be_cut l n 0 f
+pub are_cut-nodes_of : (l : Logic) (n : ℕ) (f : Formula) → length (nodes_of f) ≤ 18446744073709551615 → are_cut_nodes l n 0 [] (nodes_of f) ≡ may_be_cut l n 0 f
 are_cut-nodes_of l n f small =
-    rw (are_cut-nodes_before l n f 0 0 [] [] (omega (arith, length-nodes_before f [])), and_passed (may_be_cut l n 0 f))
+    rw (are_cut-first l n f [], are_cut-nodes_before l n f 0 0 [] [] (omega (arith, length-nodes_before f [])), and_passed (may_be_cut l n 0 f))
 
 -- when no node is left, all of them passed
 pub may_be_cut-passed : (l : Logic) (n : ℕ) (f : Formula) (ns : List Node) (d : ℕ) (s : List ℕ) (i : ℕ) → ns ≡ nodes_of f → length ns ≤ 18446744073709551615 → length ns ≤ i →
-    are_cut_nodes l n d s (drop i ns) ≡ are_cut_nodes l n 0 (0 ∷ []) ns → true ≡ may_be_cut l n 0 f
+    are_cut_nodes l n d s (drop i ns) ≡ are_cut_nodes l n 0 [] ns → true ≡ may_be_cut l n 0 f
 may_be_cut-passed l n f ns d s i is_all small over so_far =
-    let e : true ≡ are_cut_nodes l n 0 (0 ∷ []) ns = rw (drop_all i ns over) at so_far in
+    let e : true ≡ are_cut_nodes l n 0 [] ns = rw (drop_all i ns over) at so_far in
     e ∙ (rw is_all (are_cut-nodes_of l n f (rw is_all at small)))
 
 -- a node does not pass
 pub may_be_cut-stopped : (l : Logic) (n : ℕ) (f : Formula) (ns : List Node) (d : ℕ) (s : List ℕ) (i : ℕ) (x : Node) → ns ≡ nodes_of f → length ns ≤ 18446744073709551615 → i < length ns →
-    x ≡ get_or ns i x → is_cut_node l n d x ≡ false → are_cut_nodes l n d s (drop i ns) ≡ are_cut_nodes l n 0 (0 ∷ []) ns → false ≡ may_be_cut l n 0 f
+    x ≡ get_or ns i x → is_cut_node l n d x ≡ false → are_cut_nodes l n d s (drop i ns) ≡ are_cut_nodes l n 0 [] ns → false ≡ may_be_cut l n 0 f
 may_be_cut-stopped l n f ns d s i x is_all small within item stops so_far =
     let here : drop i ns ≡ x ∷ drop (suc i) ns = rw (← item) at (drop-cons ns i x within) in
-    let e : false ≡ are_cut_nodes l n 0 (0 ∷ []) ns = rw (here, stops) at so_far in
+    let e : false ≡ are_cut_nodes l n 0 [] ns = rw (here, stops) at so_far in
     e ∙ (rw is_all (are_cut-nodes_of l n f (rw is_all at small)))
 
 pub ruleset scope_facts = (all-cells_of, are_cut-nodes_of)

@@ -1,5 +1,5 @@
 //! Lists of references, which share their tails and never change: applicative random-access stacks.
-ghost use Rattle.std.specs.Prelude.{◌≡◌, ◌<◌, ◌≤◌, ◌∷◌, [], suc, IfOk, Some, length, slice_get};
+ghost use Rattle.std.specs.Prelude.{◌≡◌, ◌<◌, ◌≤◌, ◌∷◌, [], suc, IfOk, Some, length, slice_get, get_or};
 ghost use Rattle.polarised_formulas.specs.References.{list_from, IsTail};
 
 use fpc_base::outside::OutOfMemory;
@@ -97,6 +97,7 @@ fn length_of<R: Copy>(list: &Option<Rc<Link<R>>>) -> usize
 }
 
 /// The same list.
+#[inline]
 fn shared<R: Copy>(list: &Option<Rc<Link<R>>>) -> Result<Option<Rc<Link<R>>>, OutOfMemory>
     ensures { IfOk result (λ l. list_from l ≡ list_from list.now) }
 {
@@ -184,24 +185,24 @@ impl<R: Copy> References<R> {
     }
 
     /// How many there are. Constant time.
-    pub(crate) fn len(&self) -> usize
+    fn len(&self) -> usize
         ensures { result ≡ length self.now }
     {
         length_of(&self.first)
     }
 
-    /// The reference at a place. Time is logarithmic in the list's length.
-    pub(crate) fn get(&self, place: usize) -> R
-        requires { place < length self.now }
-        ensures { slice_get self.now place ≡ Some result }
+    /// The reference at a place, or else the other one. Time is logarithmic in the list's length.
+    pub(crate) fn get_or(&self, place: usize, other: R) -> R
+        ensures { result ≡ get_or self.now place other }
     {
         match &self.first {
-            Some(first) => reference_at(first, place),
-            None => unreachable!(),
+            Some(first) if place < first.len() => reference_at(first, place),
+            _ => other,
         }
     }
 
     /// The same list. Constant time.
+    #[inline]
     pub(crate) fn copy(&self) -> Result<References<R>, OutOfMemory>
         ensures { IfOk result (λ r. r ≡ self.now) }
     {

@@ -105,9 +105,9 @@ fn is_cut_node(logic: Logic, node: Node, level: u64, depth: u64) -> bool
 /// A walk over a formula's nodes.
 #[derive(Drop)]
 struct Walk {
-    /// The depth of the literal whose cells come next.
+    /// The depth of the literal whose cells come next; at the first node, that of the whole formula.
     depth: u64,
-    /// The depths of the formulas still to come.
+    /// The depths of the parts still to come.
     pending: Depths,
 }
 
@@ -131,14 +131,15 @@ impl Walk {
 
 /// Whether the formula may be cut at a level: it is of the logic, it has no variable and no free
 /// bound index, and its eigenvariables are below the level. Time is linear in the formula's size,
-/// and memory in its depth.
+/// and memory in its depth; a formula without parts takes none.
 pub fn may_be_cut(alloc: Global, logic: Logic, f: &Formula, level: u64) -> Result<bool, OutOfMemory>
     ensures { IfOk result (λ b. b ≡ may_be_cut logic level 0 f.now) }
 {
     let nodes = f.nodes();
-    let mut pending = Depths::new(alloc);
-    pending.push(0)?;
-    let mut walk = Walk { depth: 0, pending };
+    let mut walk = Walk {
+        depth: 0,
+        pending: Depths::new(alloc),
+    };
     for node in nodes {
         if !is_cut_node(logic, *node, level, walk.depth) {
             return Ok(false);

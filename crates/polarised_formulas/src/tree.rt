@@ -2,7 +2,7 @@
 ghost use Rattle.std.specs.Prelude.{◌≡◌, ◌<◌, ◌≤◌, ◌+◌, suc, IfOk, length, get_or, drop};
 ghost use Rattle.polarised_formulas.specs.Formula.{nodes_of};
 ghost use Rattle.polarised_formulas.specs.Nodes.{arity, front_length};
-ghost use Rattle.polarised_formulas.specs.Sizes.{sizes_of};
+ghost use Rattle.polarised_formulas.specs.Sizes.{sizes_of, kept_sizes};
 
 use crate::formula::Formula;
 use crate::node::Node;
@@ -15,13 +15,14 @@ use std::marker::Model;
 #[derive(Drop)]
 pub(crate) struct Tree {
     nodes: Vec<Node>,
+    /// The size of the part at each place; empty for a formula of one node.
     sizes: Vec<usize>,
 }
 
 impl Model for Tree {
     ghost use Rattle.std.specs.Prelude.{◌≡◌};
     ghost use Rattle.polarised_formulas.specs.Formula.{Formula, formula_code, formula_of, IsOneFormula};
-    ghost use Rattle.polarised_formulas.specs.Sizes.{sizes_of};
+    ghost use Rattle.polarised_formulas.specs.Sizes.{kept_sizes};
 
     ghost Value = { Formula };
 
@@ -29,16 +30,17 @@ impl Model for Tree {
 
     ghost view = { λ t. formula_of t.nodes.items };
 
-    ghost invariant = { λ t. IsOneFormula t.nodes.items × (t.sizes.items ≡ sizes_of t.nodes.items) };
+    ghost invariant = { λ t. IsOneFormula t.nodes.items × (t.sizes.items ≡ kept_sizes t.nodes.items) };
 }
 
-/// The number at a place; 0 where there is none.
-fn at_or_zero(sizes: &[usize], place: usize) -> usize
-    ensures { result ≡ get_or sizes.now place 0 }
+/// The number at a place, or the other one where there is none.
+#[inline]
+fn size_or(sizes: &[usize], place: usize, other: usize) -> usize
+    ensures { result ≡ get_or sizes.now place other }
 {
     match sizes.get(place) {
         Some(size) => *size,
-        None => 0,
+        None => other,
     }
 }
 
@@ -49,7 +51,7 @@ fn length_of(nodes: &[Node], sizes: &[usize], wanted: u64) -> usize
 {
     let mut total: usize = 0;
     for i in 0..wanted {
-        total += at_or_zero(sizes, total);
+        total += size_or(sizes, total, 0);
     }
     total
 }
@@ -82,28 +84,40 @@ fn sizes_of_nodes(alloc: Global, nodes: &[Node]) -> Result<Vec<usize>, OutOfMemo
     Ok(sizes)
 }
 
-/// The place behind the part at a place.
+/// The sizes that a tree keeps. For one node they take no memory.
+fn kept_sizes(alloc: Global, nodes: &[Node]) -> Result<Vec<usize>, OutOfMemory>
+    ensures { IfOk result (λ v. v.items ≡ kept_sizes nodes.now) }
+{
+    if nodes.len() <= 1 {
+        return Ok(Vec::new(alloc));
+    }
+    sizes_of_nodes(alloc, nodes)
+}
+
+/// The place behind the part at a place. A part without a size is one node.
+#[inline]
 fn end_of_part(nodes: &[Node], sizes: &[usize], place: usize) -> usize
-    requires sizes { sizes.now ≡ sizes_of nodes.now }
+    requires sizes { sizes.now ≡ kept_sizes nodes.now }
     requires within { place < length nodes.now }
     ensures value { result ≡ place + front_length 1 (drop place nodes.now) }
     ensures within { result ≤ length nodes.now }
 {
-    place + at_or_zero(sizes, place)
+    place + size_or(sizes, place, 1)
 }
 
 impl Tree {
     /// The formula with its sizes. Its nodes are not copied. Time is linear in its size, as is the
-    /// memory of the sizes.
+    /// memory of the sizes, which one node does without.
     pub(crate) fn of_formula(alloc: Global, f: Formula) -> Result<Tree, OutOfMemory>
         ensures { IfOk result (λ t. t ≡ f) }
     {
         let nodes = f.into_node_list();
-        let sizes = sizes_of_nodes(alloc, nodes.as_slice())?;
+        let sizes = kept_sizes(alloc, nodes.as_slice())?;
         Ok(Tree { nodes, sizes })
     }
 
     /// The nodes in prefix order.
+    #[inline]
     pub(crate) fn nodes(&self) -> &[Node]
         ensures { result.now ≡ nodes_of self.now }
     {
@@ -111,6 +125,7 @@ impl Tree {
     }
 
     /// The place behind a node.
+    #[inline]
     pub(crate) fn next_of(&self, place: usize) -> usize
         requires { place < length (nodes_of self.now) }
         ensures { result ≡ place + 1 }
@@ -120,6 +135,7 @@ impl Tree {
     }
 
     /// The place behind the part at a place. Constant time.
+    #[inline]
     pub(crate) fn end_of(&self, place: usize) -> usize
         requires { place < length (nodes_of self.now) }
         ensures value { result ≡ place + front_length 1 (drop place (nodes_of self.now)) }

@@ -8,18 +8,18 @@ use Rattle.polarised_formulas.proofs.closure.Closure.open_at.Goals as goal
 
 pub sharing-requires : goal.sharing-requires
 sharing-requires g c =
-    let nodes = nodes_of c.self.inside.tree.value in
+    let nodes = nodes_of c.self.inside.root.value.tree in
     let o : c.in_ok-opened.opened ≡ c.args.t ∷ c.self.inside.opened = search rules in
     let q : IsQuantified (formula_of (drop c.self.inside.from nodes)) = rw (← c.self.view_is) at c.requires in
-    let b = body_made nodes c.self.inside.from (length c.self.inside.opened) (length c.self.inside.parameters) c.self.invariant q in
+    let b = body_made nodes c.self.inside.from (length c.self.inside.opened) (length c.self.inside.root.value.parameters) c.self.invariant q in
     rw (c.next_of-from.ensures, o) b.at
 
 pub returns-clause-value : goal.returns-clause-value
 returns-clause-value g c =
-    let nodes = nodes_of c.self.inside.tree.value in
+    let nodes = nodes_of c.self.inside.root.value.tree in
     let o : c.in_ok-opened.opened ≡ c.args.t ∷ c.self.inside.opened = search rules in
     let q : IsQuantified (formula_of (drop c.self.inside.from nodes)) = rw (← c.self.view_is) at c.requires in
-    let b = body_made nodes c.self.inside.from (length c.self.inside.opened) (length c.self.inside.parameters) c.self.invariant q in
+    let b = body_made nodes c.self.inside.from (length c.self.inside.opened) (length c.self.inside.root.value.parameters) c.self.invariant q in
     rw (← c.self.view_is) (rw (c.next_of-from.ensures, b.is, o) at c.sharing.ensures)
 
 pub returns-clause-stands : goal.returns-clause-stands

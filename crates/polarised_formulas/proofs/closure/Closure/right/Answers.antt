@@ -8,19 +8,21 @@ use Rattle.polarised_formulas.proofs.closure.Closure.right.Goals as goal
 
 pub sharing-requires : goal.sharing-requires
 sharing-requires g c =
-    let nodes = nodes_of c.self.inside.tree.value in
-    let d : c.deref-2.result.now ≡ c.self.inside.tree.value = search rules in
+    let nodes = nodes_of c.self.inside.root.value.tree in
+    let d : c.deref-2.result.now ≡ c.self.inside.root.value = search rules in
+    let o : c.in_ok-opened.opened ≡ c.self.inside.opened = search rules in
     let q : IsPair (formula_of (drop c.self.inside.from nodes)) = rw (← c.self.view_is) at c.requires in
-    let b = right_made nodes c.self.inside.from (length c.self.inside.opened) (length c.self.inside.parameters) c.self.invariant q in
-    rw (c.end_of-from.ensures.value, c.next_of-first.ensures, d) b.at
+    let b = right_made nodes c.self.inside.from (length c.self.inside.opened) (length c.self.inside.root.value.parameters) c.self.invariant q in
+    rw (c.end_of-from.ensures.value, c.next_of-first.ensures, d, o) b.at
 
 pub returns-clause-value : goal.returns-clause-value
 returns-clause-value g c =
-    let nodes = nodes_of c.self.inside.tree.value in
-    let d : c.deref-2.result.now ≡ c.self.inside.tree.value = search rules in
+    let nodes = nodes_of c.self.inside.root.value.tree in
+    let d : c.deref-2.result.now ≡ c.self.inside.root.value = search rules in
+    let o : c.in_ok-opened.opened ≡ c.self.inside.opened = search rules in
     let q : IsPair (formula_of (drop c.self.inside.from nodes)) = rw (← c.self.view_is) at c.requires in
-    let b = right_made nodes c.self.inside.from (length c.self.inside.opened) (length c.self.inside.parameters) c.self.invariant q in
-    rw (← c.self.view_is) (rw (c.end_of-from.ensures.value, c.next_of-first.ensures, d, b.is) at c.sharing.ensures)
+    let b = right_made nodes c.self.inside.from (length c.self.inside.opened) (length c.self.inside.root.value.parameters) c.self.invariant q in
+    rw (← c.self.view_is) (rw (c.end_of-from.ensures.value, c.next_of-first.ensures, d, b.is, o) at c.sharing.ensures)
 
 pub returns-clause-stands : goal.returns-clause-stands
 returns-clause-stands g c =
