@@ -419,6 +419,7 @@ impl PlainReader {
         }
     }
 
+    #[inline(always)]
     fn behind_formula(&mut self, b: u8) -> Result<Progress, TokenRefusal>
         ensures { (logic : Logic) (hs : List Hole) (f : Formula) → Stands logic (behind_formula hs f) self.old → IsNext logic 0 result self.new (end_formula hs f b) }
     {
@@ -456,6 +457,7 @@ impl PlainReader {
     }
 
     /// Takes the end of the line behind a whole formula.
+    #[inline(always)]
     fn end_formula(&mut self) -> Result<Progress, TokenRefusal>
         ensures { (logic : Logic) (hs : List Hole) (f : Formula) → Stands logic (behind_formula hs f) self.old → IsNext logic 0 result self.new (end_formula hs f 10) }
     {

@@ -57,6 +57,7 @@ impl PlainReader {
     }
 
     /// Takes what stands behind a word of so many bytes, where it is a unit.
+    #[inline(always)]
     fn behind_word(&mut self, n: usize, bytes: &[u8]) -> PlainRun
         requires some { 0 < n }
         requires within { n ≤ length bytes.now }
@@ -72,6 +73,7 @@ impl PlainReader {
     }
 
     /// Takes what stands behind a unit of so many bytes.
+    #[inline(always)]
     fn behind_unit(&mut self, n: usize, bytes: &[u8]) -> PlainRun
         requires mode { self.old.mode ≡ Mode.BehindFormula }
         requires some { 0 < n }
@@ -147,6 +149,7 @@ impl PlainReader {
     }
 
     /// Takes the whole name of a literal, of so many bytes, with what stands behind it, or a byte.
+    #[inline(always)]
     fn literal_piece(
         &mut self,
         names: &mut Names,
@@ -173,6 +176,7 @@ impl PlainReader {
     }
 
     /// Takes what stands behind the name of a literal.
+    #[inline(always)]
     fn behind_name(&mut self, positive: bool, name: NameId, bytes: &[u8]) -> PlainRun
         requires { 0 < length bytes.now }
         ensures stop { (number : List ℕ → ℕ) (logic : Logic) (hs : List Hole) (q : Reading) → IsLiteral logic hs [] self.old
@@ -189,6 +193,7 @@ impl PlainReader {
     }
 
     /// Takes a connective behind a formula, with its blanks, or a byte.
+    #[inline(always)]
     pub(super) fn behind_piece(&mut self, bytes: &[u8]) -> PlainRun
         requires { 0 < length bytes.now }
         ensures stop { (number : List ℕ → ℕ) (logic : Logic) (hs : List Hole) (f : Formula) → Stands logic (behind_formula hs f) self.old
