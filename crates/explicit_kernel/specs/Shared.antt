@@ -2,13 +2,12 @@
 use Rattle.std.specs.Prelude.{◌≡◌, ℕ, suc, ◌≤◌, nat_eq, if◌then◌else◌, List, [], ◌∷◌, ◌++◌, length, map, take}
 use Rattle.std.specs.List.{AllByRecursion}
 use Rattle.fpc_terms.specs.Term.{Term}
-use Rattle.polarised_formulas.specs.Formula.{Formula}
+use Rattle.polarised_formulas.specs.declared.logic.Polarity.TheVariants.{Positive}
+use Rattle.polarised_formulas.specs.Formula.{Formula, truth}
 use Rattle.polarised_formulas.specs.Closure.{Closure, stands_for}
 use Rattle.polarised_formulas.specs.Held.{given, closure_reach, AreUnbound}
 use Rattle.polarised_formulas.specs.declared.held.Given.{Given}
 use Rattle.lkf_rules.specs.Sequent.{Sequent, up, down, Levelled}
-use Rattle.lkf_rules.specs.declared.rules.effect.Effect.{Effect}
-use Rattle.lkf_rules.specs.Effect.{premises_by}
 use Rattle.explicit_kernel.specs.declared.shared.Cell.{Cell}
 use Rattle.explicit_kernel.specs.declared.shared.Task.{Task}
 use Rattle.explicit_kernel.specs.declared.shared.Task.TheVariants.{Work, Focus}
@@ -40,10 +39,15 @@ abbrev pub GoDown : List Cell → Type 0
 GoDown [] = Unit {0}
 GoDown (c ∷ cs) = (c.next ≤ length cs) × GoDown cs
 
+-- the first formula of a list that has one
+abbrev pub first_of : List Formula → Formula
+first_of [] = truth Positive
+first_of (f ∷ g) = f
+
 -- the sequent with these stored formulas
 abbrev pub sequent_of : List Term → List Held → List Cell → Task → Sequent
 sequent_of ts s cs (Work n) = up (map (meant ts) s) (map (meant ts) (chain cs n))
-sequent_of ts s cs (Focus h) = down (map (meant ts) s) (meant ts h)
+sequent_of ts s cs (Focus n) = down (map (meant ts) s) (first_of (map (meant ts) (chain cs n)))
 
 -- the sequents with their levels
 abbrev pub sequents_of : List Term → List Held → List Cell → List Open → List Levelled
@@ -53,7 +57,7 @@ sequents_of ts s cs (o ∷ os) = (o.level, sequent_of ts (take o.stored s) cs o.
 -- the task works on no cell above the n-th
 abbrev pub IsBelow : ℕ → Task → Type 0
 IsBelow n (Work k) = k ≤ n
-IsBelow n (Focus h) = Unit {0}
+IsBelow n (Focus k) = k ≤ n
 
 -- the sequents need no more than so many cells and stored formulas, and those behind the first no
 -- more than it says
@@ -61,10 +65,10 @@ abbrev pub AreBelow : ℕ → ℕ → List Open → Type 0
 AreBelow n k [] = Unit {0}
 AreBelow n k (o ∷ os) = (o.stored ≤ k) × (o.floor ≤ n) × IsBelow n o.task × AreBelow o.floor o.stored os
 
--- the first n terms serve what the task works on
+-- the first n terms serve what the task works on; under focus is one formula
 abbrev pub IsServedTask : ℕ → List Cell → Task → Type 0
 IsServedTask n cs (Work k) = AreServed n (chain cs k)
-IsServedTask n cs (Focus h) = IsServed n h
+IsServedTask n cs (Focus k) = (h : Held) × (chain cs k ≡ h ∷ []) × IsServed n h
 
 -- so many terms serve the sequents, and those behind the first need no more than it says
 abbrev pub AreServedAll : ℕ → List Held → List Cell → List Open → Type 0
@@ -101,12 +105,6 @@ worked_at x n = map (meant x.terms.items) (chain x.cells n)
 abbrev pub pending_of : Shared → List Levelled
 pending_of x = sequents_of x.terms.items x.stored.items x.cells x.sequents
 
--- what an effect makes of a sequent with its level, by a table of terms
-abbrev pub premises_at : List Term → Effect Held → Levelled → List Levelled
-premises_at ts e (n, up s []) = premises_by (meant ts) e n s []
-premises_at ts e (n, up s (f ∷ g)) = premises_by (meant ts) e n s g
-premises_at ts e (n, down s f) = premises_by (meant ts) e n s []
-
 -- cells were put on top
 pub record Grows (old new : Shared) : Type 0 where
   pub stored : new.stored ≡ old.stored
@@ -141,3 +139,9 @@ pub record HasTerms (old new : Shared) : Type 0 where
   pub more : List Term
   pub terms : new.terms.items ≡ old.terms.items ++ more
   pub unbound : AreUnbound more
+
+-- the cell is the first of the worked list at a place, whose rest is left
+pub record IsFirst (c : Cell) (n : ℕ) (old new : Shared) : Type 0 where
+  pub list : chain old.cells n ≡ c.formula ∷ chain new.cells c.next
+  pub formula : IsServed (length new.terms.items) c.formula
+  pub rest : IsPlace new c.next

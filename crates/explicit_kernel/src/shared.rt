@@ -4,29 +4,20 @@
 //! lists share their ends, and the terms that steps brought are in a table. So a step takes
 //! constant time but for the opening of a quantifier and for the arguments that `init` compares,
 //! and what a finished branch has left behind is dropped when the next sequent is taken up.
-ghost use Rattle.std.specs.Prelude.{◌≡◌, ◌≤◌, ◌<◌, ◌-◌, ◌^◌, ◌++◌, ◌∷◌, ℕ, [], List, length, map, take, OnOk, IfOk, IsTrue, ◌↔◌};
-ghost use Rattle.std.specs.List.{AllByRecursion};
-ghost use Rattle.fpc_terms.specs.Term.{Term, Each, Always, Never};
-ghost use Rattle.polarised_formulas.specs.Formula.{Formula, IsProper};
-ghost use Rattle.polarised_formulas.specs.Held.{AreUnbound, closure_reach};
-ghost use Rattle.lkf_rules.specs.Sequent.{Levelled, up, down};
-ghost use Rattle.lkf_rules.specs.Effect.{premises_by, effect_reach};
-ghost use Rattle.explicit_kernel.specs.Shared.{Held, meant, IsServed, AreServed, AreServedAll, IsServedTask, IsPlace, stored_of, worked_at, chain, GoDown, sequent_of, sequents_of, IsBelow, AreBelow, IsReady, IsSound, Grows, HasTerms, IsTaken, taken_sequent, pending_of, premises_at};
-ghost use Rattle.explicit_kernel.specs.Naming.{TellsAt, IsPlayed};
+ghost use Rattle.std.specs.Prelude.{◌≡◌, ◌≤◌, ◌<◌, ◌++◌, ◌∷◌, ℕ, [], length, OnOk, IfOk, IsTrue, ◌↔◌};
+ghost use Rattle.fpc_terms.specs.Term.{Each, Always, Never};
+ghost use Rattle.polarised_formulas.specs.Formula.{IsProper};
+ghost use Rattle.lkf_rules.specs.Sequent.{up, down};
+ghost use Rattle.explicit_kernel.specs.Shared.{meant, IsServed, IsServedTask, IsPlace, IsFirst, stored_of, worked_at, chain, GoDown, sequent_of, IsBelow, IsReady, IsSound, Grows, HasTerms, IsTaken, taken_sequent, pending_of};
+
+mod rules;
 
 use crate::stack::Stack;
 use fpc_base::outside::OutOfMemory;
 use fpc_terms::term::TermBuf;
-use lkf_rules::rules::effect::Effect;
-use lkf_rules::rules::outcome::{StepRefusal, fits};
-use lkf_rules::rules::table::{cut, decide, instance, on_first, on_focus};
 use polarised_formulas::closure::Closure;
 use polarised_formulas::formula::Formula;
-use polarised_formulas::held::{Given, HeldFormula};
-use polarised_formulas::logic::Logic;
-use polarised_formulas::node::Node;
-use polarised_formulas::scope::{is_in_scope, may_be_cut};
-use polarised_formulas::step::Step;
+use polarised_formulas::held::Given;
 use std::alloc::Global;
 
 /// A formula of a worked list, and the place of the next one. Places count the cells from 1; 0 is
@@ -37,17 +28,29 @@ pub(crate) struct Cell {
     pub(crate) next: usize,
 }
 
+impl Cell {
+    /// The same cell. Constant time.
+    fn copy(&self) -> Result<Cell, OutOfMemory>
+        ensures { IfOk result (λ c. c ≡ self.now) }
+    {
+        Ok(Cell {
+            formula: self.formula.copy()?,
+            next: self.next,
+        })
+    }
+}
+
 /// What a sequent's derivation works on.
-#[derive(Drop)]
+#[derive(Clone, Copy)]
 pub(crate) enum Task {
     /// The worked list that begins at this place.
     Work(usize),
-    /// The formula under focus.
-    Focus(Closure<Given>),
+    /// The formula under focus, alone in a list at this place.
+    Focus(usize),
 }
 
 /// A sequent still to be derived.
-#[derive(Drop)]
+#[derive(Clone, Copy)]
 pub(crate) struct Open {
     pub(crate) level: u64,
     /// How many of the stored formulas are its own.
@@ -69,6 +72,7 @@ pub(crate) struct Shared {
 }
 
 /// The larger of two numbers.
+#[inline]
 fn larger(a: usize, b: usize) -> usize
     ensures first { a ≤ result }
     ensures second { b ≤ result }
@@ -101,7 +105,7 @@ impl Shared {
         ensures pending { IfOk result (λ x. pending_of x ≡ (0, up [] (goal.now ∷ [])) ∷ []) }
     {
         let mut shared = Shared::empty(alloc);
-        let goal = Closure::hold(alloc, goal.copy()?)?;
+        let goal = Closure::of_formula(alloc, goal.copy()?)?;
         shared.open_first(0, 0, goal, 0)?;
         Ok(shared)
     }
@@ -114,6 +118,7 @@ impl Shared {
     }
 
     /// Puts a formula before the worked list at a place, and gives the place of the longer list.
+    #[inline]
     fn put_before(&mut self, formula: Closure<Given>, next: usize) -> Result<usize, OutOfMemory>
         requires sound { IsSound self.old }
         requires served { IsServed (length self.old.terms.items) formula }
@@ -128,6 +133,7 @@ impl Shared {
 
     /// Puts a sequent with all the stored formulas before the others, which need no cell above the
     /// floor.
+    #[inline]
     fn open_task(&mut self, level: u64, floor: usize, task: Task) -> Result<(), OutOfMemory>
         requires ready { IsReady floor self.old }
         requires task { IsBelow (length self.old.cells) task }
@@ -152,6 +158,7 @@ impl Shared {
     }
 
     /// Puts a sequent before the others that works on a formula and then on the list at a place.
+    #[inline]
     fn open_first(
         &mut self,
         level: u64,
@@ -175,7 +182,29 @@ impl Shared {
         self.open_task(level, floor, Task::Work(place))
     }
 
+    /// Puts a sequent before the others that has a formula under focus.
+    #[inline]
+    fn open_focus(
+        &mut self,
+        level: u64,
+        floor: usize,
+        formula: Closure<Given>,
+    ) -> Result<(), OutOfMemory>
+        requires ready { IsReady floor self.old }
+        requires served { IsServed (length self.old.terms.items) formula }
+        ensures sound { IsSound self.new }
+        ensures stored { self.new.stored ≡ self.old.stored }
+        ensures terms { self.new.terms.items ≡ self.old.terms.items }
+        ensures pending { OnOk result (pending_of self.new ≡
+            (level, down (stored_of self.old) (meant self.old.terms.items formula))
+            ∷ pending_of self.old) }
+    {
+        let place = self.put_before(formula, 0)?;
+        self.open_task(level, floor, Task::Focus(place))
+    }
+
     /// Puts a formula behind the stored ones.
+    #[inline]
     fn store(&mut self, formula: Closure<Given>, floor: usize) -> Result<(), OutOfMemory>
         requires ready { IsReady floor self.old }
         requires served { IsServed (length self.old.terms.items) formula }
@@ -189,7 +218,20 @@ impl Shared {
         Ok(())
     }
 
+    /// Puts a term that a step brought into the table, and gives its place.
+    fn keep_term(&mut self, t: TermBuf) -> Result<usize, OutOfMemory>
+        requires { Each Always Never Always t }
+        ensures grows { HasTerms self.old self.new }
+        ensures place { IfOk result (λ k. k ≡ length self.old.terms.items) }
+        ensures last { OnOk result (self.new.terms.items ≡ self.old.terms.items ++ t ∷ []) }
+    {
+        let place = self.terms.as_slice().len();
+        self.terms.push(t)?;
+        Ok(place)
+    }
+
     /// Drops the stored formulas and the terms that neither a sequent nor those behind it need.
+    #[inline]
     fn forget(&mut self, sequent: &Open)
         requires { IsTaken sequent.now self.old }
         ensures ready { IsReady sequent.now.floor self.new }
@@ -205,6 +247,7 @@ impl Shared {
     }
 
     /// Drops the cells that neither the sequents nor the worked list at a place need.
+    #[inline]
     fn cut_back(&mut self, floor: usize, rest: usize)
         requires ready { IsReady floor self.old }
         requires rest { IsPlace self.old rest }
@@ -219,226 +262,53 @@ impl Shared {
         self.cells.keep(larger(floor, rest));
     }
 
-    /// The place of the worked list behind the first formula; 0 where there is none.
-    fn rest_of(&self, task: &Task) -> usize
-        requires task { IsBelow (length self.now.cells) task.now }
-        requires served { IsServedTask (length self.now.terms.items) self.now.cells task.now }
+    /// The first cell of the worked list at a place.
+    #[inline]
+    fn first_at(&self, place: usize) -> &Cell
         requires down { GoDown self.now.cells }
-        ensures place { IsPlace self.now result }
-        ensures premises { (ts : List Term) (s : List (Held)) (e : Effect Held) (n : ℕ)
-            → premises_at ts e (n, sequent_of ts s self.now.cells task.now)
-            ≡ premises_by (meant ts) e n (map (meant ts) s)
-            (map (meant ts) (chain self.now.cells result)) }
+        requires place { IsPlace self.now place }
+        requires first { 0 < place }
+        ensures { IsFirst result.now place self.now self.now }
     {
-        match task {
-            Task::Focus(_) => 0,
-            Task::Work(place) => {
-                if *place == 0 {
-                    0
-                } else {
-                    self.cells.at(*place - 1).next
-                }
-            }
-        }
+        self.cells.at(place - 1)
     }
 
-    /// Puts the premises of an effect before the sequents.
-    fn open_premises(
-        &mut self,
-        level: u64,
-        floor: usize,
-        rest: usize,
-        effect: Effect<Closure<Given>>,
-    ) -> Result<(), OutOfMemory>
-        requires level { level < 2 ^ 64 - 1 }
+    /// Takes the first cell off the worked list at a place; a cell that the other sequents need
+    /// stays, and is copied.
+    #[inline]
+    fn take_first(&mut self, floor: usize, place: usize) -> Result<Cell, OutOfMemory>
         requires ready { IsReady floor self.old }
-        requires rest { IsPlace self.old rest }
-        requires served { effect_reach closure_reach effect ≤ length self.old.terms.items }
-        ensures sound { IsSound self.new }
-        ensures pending { OnOk result (pending_of self.new
-            ≡ premises_by (meant self.old.terms.items) effect level (stored_of self.old) (worked_at self.old rest)
-            ++ pending_of self.old) }
+        requires place { IsPlace self.old place }
+        requires first { 0 < place }
+        ensures ready { IsReady floor self.new }
+        ensures stored { self.new.stored ≡ self.old.stored }
+        ensures terms { self.new.terms ≡ self.old.terms }
+        ensures pending { pending_of self.new ≡ pending_of self.old }
+        ensures first { IfOk result (λ c. IsFirst c place self.old self.new) }
     {
-        match effect {
-            Effect::Close => Ok(()),
-            Effect::Pass => self.open_task(level, floor, Task::Work(rest)),
-            Effect::Work(first) => self.open_first(level, floor, first, rest),
-            Effect::WorkBoth(first, second) => {
-                let rest = self.put_before(second, rest)?;
-                self.open_first(level, floor, first, rest)
-            }
-            Effect::Split(first, second) => {
-                self.open_first(level, floor, second, rest)?;
-                let floor = self.cells.len();
-                self.open_first(level, floor, first, rest)
-            }
-            Effect::Raise(first) => self.open_first(level + 1, floor, first, rest),
-            Effect::Store(first) => {
-                self.store(first, floor)?;
-                self.open_task(level, floor, Task::Work(rest))
-            }
-            Effect::Focus(focus) => self.open_task(level, floor, Task::Focus(focus)),
-            Effect::FocusEach(first, second) => {
-                self.open_task(level, floor, Task::Focus(second))?;
-                let floor = self.cells.len();
-                self.open_task(level, floor, Task::Focus(first))
-            }
+        if floor < place {
+            Ok(self.cells.take(place - 1))
+        } else {
+            self.first_at(place).copy()
         }
     }
 
-    /// What a step does where nothing is left to work on.
-    fn effect_on_nothing(
-        &self,
-        alloc: Global,
-        level: u64,
-        step: Step,
-    ) -> Result<Effect<Closure<Given>>, StepRefusal>
-        requires served { AreServed (length self.now.terms.items) self.now.stored.items }
-        ensures tells { TellsAt self.now.terms.items step result (level, up (stored_of self.now) []) }
-        ensures reach { IfOk result (λ e. effect_reach closure_reach e ≤ length self.now.terms.items) }
+    /// Takes the first cell off the worked list at a place, and drops the cells that neither the
+    /// sequents nor the rest of the list need.
+    #[inline]
+    fn take_up(&mut self, floor: usize, place: usize) -> Result<Cell, OutOfMemory>
+        requires ready { IsReady floor self.old }
+        requires place { IsPlace self.old place }
+        requires first { 0 < place }
+        ensures ready { IsReady floor self.new }
+        ensures stored { self.new.stored ≡ self.old.stored }
+        ensures terms { self.new.terms ≡ self.old.terms }
+        ensures pending { pending_of self.new ≡ pending_of self.old }
+        ensures first { IfOk result (λ c. IsFirst c place self.old self.new) }
+        ensures dropped { IfOk result (λ c. (n : ℕ) → floor ≤ n → c.next ≤ n → length self.new.cells ≤ n) }
     {
-        match step {
-            Step::Decide(k) => decide(self.stored.as_slice(), k),
-            Step::Cut(formula) => {
-                fits(may_be_cut(alloc, Logic::Lkf, &formula, level)?)?;
-                cut(alloc, formula)
-            }
-            _ => Err(StepRefusal::DoesNotFit),
-        }
-    }
-
-    /// Puts a term that a step brought into the table, and gives its place.
-    fn keep_term(&mut self, t: TermBuf) -> Result<usize, OutOfMemory>
-        requires { Each Always Never Always t }
-        ensures grows { HasTerms self.old self.new }
-        ensures place { IfOk result (λ k. k ≡ length self.old.terms.items) }
-        ensures last { OnOk result (self.new.terms.items ≡ self.old.terms.items ++ t ∷ []) }
-    {
-        let place = self.terms.as_slice().len();
-        self.terms.push(t)?;
-        Ok(place)
-    }
-
-    /// What `some` does to a formula under focus. Its term is put into the table.
-    fn effect_of_some(
-        &mut self,
-        alloc: Global,
-        level: u64,
-        focus: &Closure<Given>,
-        t: TermBuf,
-    ) -> Result<Effect<Closure<Given>>, StepRefusal>
-        requires unbound { AreUnbound self.old.terms.items }
-        requires focus { IsServed (length self.old.terms.items) focus.now }
-        ensures grows { HasTerms self.old self.new }
-        ensures tells { TellsAt self.new.terms.items (Step.Exists t) result
-            (level, down (stored_of self.new) (meant self.new.terms.items focus.now)) }
-        ensures reach { IfOk result
-            (λ e. effect_reach closure_reach e ≤ length self.new.terms.items) }
-    {
-        match focus.shape() {
-            Node::Exists => {
-                fits(is_in_scope(&t, level))?;
-                let place = self.keep_term(t)?;
-                instance(alloc, focus, &Given::Term(place))
-            }
-            _ => Err(StepRefusal::DoesNotFit),
-        }
-    }
-
-    /// What a step does to a formula under focus.
-    fn effect_on_focus(
-        &mut self,
-        alloc: Global,
-        level: u64,
-        focus: &Closure<Given>,
-        step: Step,
-    ) -> Result<Effect<Closure<Given>>, StepRefusal>
-        requires unbound { AreUnbound self.old.terms.items }
-        requires served { AreServed (length self.old.terms.items) self.old.stored.items }
-        requires focus { IsServed (length self.old.terms.items) focus.now }
-        ensures grows { HasTerms self.old self.new }
-        ensures tells { TellsAt self.new.terms.items step result
-            (level, down (stored_of self.new) (meant self.new.terms.items focus.now)) }
-        ensures reach { IfOk result (λ e. effect_reach closure_reach e ≤ length self.new.terms.items) }
-    {
-        match step {
-            Step::Exists(t) => self.effect_of_some(alloc, level, focus, t),
-            other => on_focus(
-                alloc,
-                self.stored.as_slice(),
-                focus,
-                self.terms.as_slice(),
-                &other,
-            ),
-        }
-    }
-
-    /// What a step does to a sequent.
-    fn effect_of(
-        &mut self,
-        alloc: Global,
-        sequent: &Open,
-        step: Step,
-    ) -> Result<Effect<Closure<Given>>, StepRefusal>
-        requires ready { (floor : ℕ) × IsReady floor self.old }
-        requires task { IsBelow (length self.old.cells) sequent.now.task }
-        requires served { IsServedTask (length self.old.terms.items) self.old.cells
-            sequent.now.task }
-        ensures grows { HasTerms self.old self.new }
-        ensures tells { TellsAt self.new.terms.items step result (
-          sequent.now.level,
-          sequent_of self.new.terms.items self.new.stored.items self.new.cells
-              sequent.now.task,
-        ) }
-        ensures reach { IfOk result
-            (λ e. effect_reach closure_reach e ≤ length self.new.terms.items) }
-    {
-        match &sequent.task {
-            Task::Focus(focus) => self.effect_on_focus(alloc, sequent.level, focus, step),
-            Task::Work(place) => {
-                if *place == 0 {
-                    self.effect_on_nothing(alloc, sequent.level, step)
-                } else {
-                    let first = &self.cells.at(*place - 1).formula;
-                    on_first(alloc, sequent.level, first, &step)
-                }
-            }
-        }
-    }
-
-    /// Plays a step at a sequent that was taken off the others.
-    fn play_at(&mut self, alloc: Global, sequent: &Open, step: Step) -> Result<(), StepRefusal>
-        requires taken { IsTaken sequent.now self.old }
-        requires level { sequent.now.level < 2 ^ 64 - 1 }
-        ensures sound { IsSound self.new }
-        ensures played { IsPlayed step result
-            ((sequent.now.level, taken_sequent sequent.now self.old) ∷ pending_of self.old)
-            (pending_of self.new) }
-    {
-        self.forget(sequent);
-        let rest = self.rest_of(&sequent.task);
-        match self.effect_of(alloc, sequent, step) {
-            Ok(effect) => {
-                self.cut_back(sequent.floor, rest);
-                match self.open_premises(sequent.level, sequent.floor, rest, effect) {
-                    Ok(()) => Ok(()),
-                    Err(_) => Err(StepRefusal::OutOfMemory),
-                }
-            }
-            Err(refusal) => Err(refusal),
-        }
-    }
-
-    /// Plays a step at the next sequent. Where none is left, it does not fit.
-    pub(crate) fn play(&mut self, alloc: Global, step: Step) -> Result<(), StepRefusal>
-        requires sound { IsSound self.old }
-        requires levels { AllByRecursion (λ p. p.0 < 2 ^ 64 - 1) (pending_of self.old) }
-        ensures sound { IsSound self.new }
-        ensures played { IsPlayed step result (pending_of self.old) (pending_of self.new) }
-    {
-        match self.sequents.pop() {
-            None => Err(StepRefusal::DoesNotFit),
-            Some(sequent) => self.play_at(alloc, &sequent, step),
-        }
+        let cell = self.take_first(floor, place)?;
+        self.cut_back(floor, cell.next);
+        Ok(cell)
     }
 }

@@ -1,6 +1,6 @@
 //! Stacks, seen from their top.
 ghost use Rattle.std.specs.Prelude.{◌≡◌, ◌↔◌, ◌<◌, ◌≤◌, [], ◌∷◌, List, length, OnOk, OnErr, IfSome, IfNone, IsTrue};
-ghost use Rattle.explicit_kernel.specs.Stack.{StandsAt, IsLowest};
+ghost use Rattle.explicit_kernel.specs.Stack.{StandsAt, IsLowest, IsBefore};
 
 use fpc_base::outside::OutOfMemory;
 use std::alloc::Global;
@@ -58,6 +58,18 @@ impl<T: Drop> Stack<T> {
         ensures { StandsAt self.now below result.now }
     {
         &self.items[below]
+    }
+
+    /// Takes away the item that has so many below it, and what stands above it.
+    pub(crate) fn take(&mut self, below: usize) -> T
+        requires { below < length self.old }
+        ensures { IsBefore self.old below result self.new }
+    {
+        self.items.truncate(below + 1);
+        match self.items.pop() {
+            Some(item) => item,
+            None => unreachable!(),
+        }
     }
 
     /// Takes away what stands above the lowest items, as many as said.
