@@ -2,22 +2,20 @@
 use Rattle.std.proofs.Common.{◌≡◌, ℕ, suc, ◌≤◌, List, [], ◌∷◌, ◌++◌, length, map, take, drop, refl, sym, ap, subst, ◌∙◌, arith, Result, Ok, Err, OnOk, OnErr}
 use Rattle.std.specs.Prelude.{zero}
 use Rattle.std.specs.List.{AllByRecursion}
-use Rattle.std.proofs.lemmas.List.{take-append-le, take-take, length-take, length-append, take-append-drop}
+use Rattle.std.proofs.lemmas.List.{take-append-le, take-take, length-take, length-append, append_assoc, take-append-drop}
 use Rattle.fpc_terms.specs.Term.{Term, Each, Always, Never}
 use Rattle.polarised_formulas.specs.Formula.{Formula}
 use Rattle.polarised_formulas.specs.Held.{AreUnbound}
 use Rattle.polarised_formulas.specs.Grows.{stands-grown}
 use Rattle.polarised_formulas.proofs.Elements.{AllByRecursion-weaker, AllByRecursion-append}
 use Rattle.lkf_rules.specs.Sequent.{Levelled}
-use Rattle.lkf_rules.specs.declared.rules.effect.Effect.{Effect}
-use Rattle.lkf_rules.specs.Effect.{premises_by}
 use Rattle.explicit_kernel.specs.declared.shared.Cell.{Cell}
 use Rattle.explicit_kernel.specs.declared.shared.Task.{Task}
 use Rattle.explicit_kernel.specs.declared.shared.Task.TheVariants.{Work, Focus}
 use Rattle.explicit_kernel.specs.declared.shared.Open.{Open}
 use Rattle.explicit_kernel.specs.declared.shared.Shared.{Shared}
-use Rattle.explicit_kernel.specs.Stack.{StandsAt, IsLowest}
-use Rattle.explicit_kernel.specs.Shared.{Held, meant, IsServed, AreServed, IsServedTask, AreServedAll, IsPlace, chain, GoDown, sequent_of, sequents_of, IsBelow, AreBelow, IsReady, IsSound, Grows, HasTerms, IsTaken, pending_of, premises_at}
+use Rattle.explicit_kernel.specs.Stack.{StandsAt, IsLowest, IsBefore}
+use Rattle.explicit_kernel.specs.Shared.{Held, meant, IsServed, AreServed, IsServedTask, AreServedAll, IsPlace, IsFirst, chain, GoDown, sequent_of, sequents_of, IsBelow, AreBelow, IsReady, IsSound, Grows, HasTerms, IsTaken, pending_of}
 
 -- a cell on top is not in a list that begins below it
 pub chain-under : (c : Cell) (cs : List Cell) (n : ℕ) → n ≤ length cs → chain (c ∷ cs) n ≡ chain cs n
@@ -59,7 +57,7 @@ Alike n s t = (k : ℕ) → k ≤ n → take k s ≡ take k t
 module _ (ts : List Term) where
   sequent_of-same : (s t : List Held) (cs ds : List Cell) (n : ℕ) (task : Task) → s ≡ t → IsBelow n task → Agree n cs ds → sequent_of ts s cs task ≡ sequent_of ts t ds task
   sequent_of-same s t cs ds n (Work k) e h agree = rw (e, agree k h) refl
-  sequent_of-same s t cs ds n (Focus f) e h agree = rw e refl
+  sequent_of-same s t cs ds n (Focus k) e h agree = rw (e, agree k h) refl
 
   -- sequents stay as they were where the cells and the stored formulas that they need do
   pub sequents-same : (s t : List Held) (cs ds : List Cell) (n k : ℕ) (os : List Open) → AreBelow n k os → Agree n cs ds → Alike k s t → sequents_of ts s cs os ≡ sequents_of ts t ds os
@@ -76,7 +74,7 @@ module _ (ts : List Term) where
 -- and so do the terms that serve them
 served_task-same : (m : ℕ) (cs ds : List Cell) (n : ℕ) (task : Task) → IsBelow n task → Agree n cs ds → IsServedTask m cs task → IsServedTask m ds task
 served_task-same m cs ds n (Work k) h agree z = subst (AreServed m) (agree k h) z
-served_task-same m cs ds n (Focus f) h agree z = z
+served_task-same m cs ds n (Focus k) below agree (h, is, z) = (h, sym (agree k below) ∙ is, z)
 
 pub served-same : (m : ℕ) (s t : List Held) (cs ds : List Cell) (n k : ℕ) (os : List Open) → AreBelow n k os → Agree n cs ds → Alike k s t → AreServedAll m s cs os → AreServedAll m t ds os
 served-same m s t cs ds n k [] h agree alike z = tt
@@ -91,7 +89,7 @@ served-same m s t cs ds n k (o ∷ os) h agree alike z =
 
 IsBelow-more : (n m : ℕ) (task : Task) → n ≤ m → IsBelow n task → IsBelow m task
 IsBelow-more n m (Work k) e h = omega (arith, e, h)
-IsBelow-more n m (Focus f) e h = tt
+IsBelow-more n m (Focus k) e h = omega (arith, e, h)
 
 pub AreBelow-more : (n m k l : ℕ) (os : List Open) → n ≤ m → k ≤ l → AreBelow n k os → AreBelow m l os
 AreBelow-more n m k l [] e f h = tt
@@ -104,7 +102,7 @@ AreServed-more n m hs e h = AllByRecursion-weaker (IsServed n) (IsServed m) (λ 
 
 pub served_task-more : (n m : ℕ) (cs : List Cell) (task : Task) → n ≤ m → IsServedTask n cs task → IsServedTask m cs task
 served_task-more n m cs (Work k) e h = AreServed-more n m (chain cs k) e h
-served_task-more n m cs (Focus f) e h = omega (arith, e, h)
+served_task-more n m cs (Focus k) e (h, is, z) = (h, is, omega (arith, e, z))
 
 pub served_all-more : (n m : ℕ) (s : List Held) (cs : List Cell) (os : List Open) → n ≤ m → AreServedAll n s cs os → AreServedAll m s cs os
 served_all-more n m s cs [] e h = tt
@@ -121,7 +119,7 @@ module _ (ts us : List Term) where
 
   pub sequent-grown : (s : List Held) (cs : List Cell) (task : Task) → AreServed (length ts) s → IsServedTask (length ts) cs task → sequent_of (ts ++ us) s cs task ≡ sequent_of ts s cs task
   sequent-grown s cs (Work k) h z = rw (all_meant-grown s h, all_meant-grown (chain cs k) z) refl
-  sequent-grown s cs (Focus f) h z = rw (all_meant-grown s h, meant-grown f z) refl
+  sequent-grown s cs (Focus k) h (f, is, z) = rw (all_meant-grown s h, is, meant-grown f z) refl
 
   pub sequents-grown : (n : ℕ) (s : List Held) (cs : List Cell) (os : List Open) → n ≤ length ts → AreServedAll n s cs os → sequents_of (ts ++ us) s cs os ≡ sequents_of ts s cs os
   sequents-grown n s cs [] e h = refl
@@ -164,31 +162,15 @@ next-below cs k c low (front, back, is, behind) =
     let next : c.next ≤ length back = here.0 in
     omega (arith, next, length-append front (c ∷ back), ap length is)
 
--- what a task that works on a list goes on with
-first-served : (n : ℕ) (cs : List Cell) (i k : ℕ) (c : Cell) (task : Task) → task ≡ Work i → i ≡ suc k → GoDown cs → StandsAt cs k c → IsServedTask n cs task → AreServed n (c.formula ∷ chain cs c.next)
-first-served n cs i k c task is z low stands h =
-    subst (AreServed n) (chain-stands cs k c low stands) (subst (λ j. AreServed n (chain cs j)) z (subst (IsServedTask n cs) is h))
-
-pub next-place : (x : Shared) (i k : ℕ) (c : Cell) (task : Task) → task ≡ Work i → i ≡ suc k → GoDown x.cells → StandsAt x.cells k c → IsServedTask (length x.terms.items) x.cells task → IsPlace x c.next
-next-place x i k c task is z low stands h = (next-below x.cells k c low stands, (first-served (length x.terms.items) x.cells i k c task is z low stands h).1)
-
-pub first-formula : (x : Shared) (i k : ℕ) (c : Cell) (task : Task) → task ≡ Work i → i ≡ suc k → GoDown x.cells → StandsAt x.cells k c → IsServedTask (length x.terms.items) x.cells task → IsServed (length x.terms.items) c.formula
-first-formula x i k c task is z low stands h = (first-served (length x.terms.items) x.cells i k c task is z low stands h).0
-
 pub no-place : (x : Shared) → IsPlace x 0
 no-place x = (omega arith, subst (AreServed (length x.terms.items)) (sym (chain-end x.cells)) tt)
 
--- what a step goes on with behind the first worked formula: nothing where there is none
-module _ (ts : List Term) (s : List Held) (cs : List Cell) (e : Effect Held) (n : ℕ) (task : Task) where
-  pub rest-focus : (h : Held) → task ≡ Focus h → premises_at ts e (n, sequent_of ts s cs task) ≡ premises_by (meant ts) e n (map (meant ts) s) (map (meant ts) (chain cs 0))
-  rest-focus h is = rw (is, chain-end cs) refl
-
-  pub rest-nothing : (i : ℕ) → task ≡ Work i → i ≡ 0 → premises_at ts e (n, sequent_of ts s cs task) ≡ premises_by (meant ts) e n (map (meant ts) s) (map (meant ts) (chain cs 0))
-  rest-nothing i is z = rw (is, z, chain-end cs) refl
-
-  pub rest-first : (i k : ℕ) (c : Cell) → task ≡ Work i → i ≡ suc k → GoDown cs → StandsAt cs k c
-      → premises_at ts e (n, sequent_of ts s cs task) ≡ premises_by (meant ts) e n (map (meant ts) s) (map (meant ts) (chain cs c.next))
-  rest-first i k c is z low stands = rw (is, z, chain-stands cs k c low stands) refl
+-- the first cell of the list at a place
+pub first-cell : (x : Shared) (k : ℕ) (c : Cell) → GoDown x.cells → IsPlace x (suc k) → StandsAt x.cells k c → IsFirst c (suc k) x x
+first-cell x k c low place stands =
+    let list : chain x.cells (suc k) ≡ c.formula ∷ chain x.cells c.next = chain-stands x.cells k c low stands in
+    let served : AreServed (length x.terms.items) (c.formula ∷ chain x.cells c.next) = subst (AreServed (length x.terms.items)) list place.1 in
+    record { list = list; formula = served.0; rest = (next-below x.cells k c low stands, served.1) }
 
 -- one more stored formula
 Alike-more : (s : List Held) (h : Held) → Alike (length s) s (s ++ h ∷ [])
@@ -247,6 +229,55 @@ cut-dropped floor rest m cs ds one lowest n low below = let long = length-lowest
 pub cut-place : (m rest : ℕ) (x : Shared) (cs : List Cell) → rest ≤ m → IsLowest cs m x.cells → AreServed (length x.terms.items) (chain cs rest) → IsPlace x rest
 cut-place m rest x cs below lowest served =
     (omega (arith, below, length-lowest cs x.cells m lowest), subst (AreServed (length x.terms.items)) (chain-lowest cs x.cells m rest below lowest) served)
+
+-- a cell that is taken off with what is above it
+IsBefore-lowest : (cs ds : List Cell) (n : ℕ) (c : Cell) → IsBefore cs n c ds → IsLowest cs n ds
+IsBefore-lowest cs ds n c (front, is, long) = (front ++ c ∷ [], is ∙ sym (append_assoc front (c ∷ []) ds), long)
+
+IsBefore-stands : (cs ds : List Cell) (n : ℕ) (c : Cell) → IsBefore cs n c ds → StandsAt cs n c
+IsBefore-stands cs ds n c (front, is, long) = (front, ds, is, long)
+
+IsBefore-next : (cs ds : List Cell) (n : ℕ) (c : Cell) → GoDown cs → IsBefore cs n c ds → c.next ≤ n
+IsBefore-next cs ds n c low (front, is, long) =
+    let here : GoDown (c ∷ ds) = GoDown-append front (c ∷ ds) (subst GoDown is low) in
+    let next : c.next ≤ length ds = here.0 in
+    omega (arith, next, long)
+
+pub taken-first : (x y : Shared) (n : ℕ) (c : Cell) → GoDown x.cells → IsPlace x (suc n) → IsBefore x.cells n c y.cells → y.terms ≡ x.terms → IsFirst c (suc n) x y
+taken-first x y n c low place before e =
+    let first : IsFirst c (suc n) x x = first-cell x n c low place (IsBefore-stands x.cells y.cells n c before) in
+    let lowest : IsLowest x.cells n y.cells = IsBefore-lowest x.cells y.cells n c before in
+    let next : c.next ≤ n = IsBefore-next x.cells y.cells n c low before in
+    record {
+      list = first.list ∙ ap (λ l. c.formula ∷ l) (chain-lowest x.cells y.cells n c.next next lowest);
+      formula = rw e first.formula;
+      rest = cut-place n c.next y x.cells next lowest (rw e first.rest.1);
+    }
+
+pub taken-ready : (x y : Shared) (floor n : ℕ) (c : Cell) → floor ≤ n → IsReady floor x → IsBefore x.cells n c y.cells → y.stored ≡ x.stored → y.terms ≡ x.terms → y.sequents ≡ x.sequents → IsReady floor y
+taken-ready x y floor n c low ready before a b d =
+    cut-ready floor n y x.cells low ready.down (IsBefore-lowest x.cells y.cells n c before)
+    (rw (a, d) ready.below) (rw (a, b, d) ready.served) (rw (a, b) ready.stored_served) (rw b ready.unbound)
+
+pub taken-pending : (x : Shared) (cs : List Cell) (floor n : ℕ) (c : Cell) → floor ≤ n → IsReady floor x → IsBefore x.cells n c cs → sequents_of x.terms.items x.stored.items cs x.sequents ≡ pending_of x
+taken-pending x cs floor n c low ready before =
+    cut-same x.terms.items floor (length x.stored.items) n x.stored.items x.cells cs x.sequents ready.below low (IsBefore-lowest x.cells cs n c before)
+
+-- a cell is the first one also when what is above the rest is cut off
+pub cut-first : (c : Cell) (n : ℕ) (x y z : Shared) → IsFirst c n x y → IsPlace z c.next → chain z.cells c.next ≡ chain y.cells c.next → z.terms ≡ y.terms → IsFirst c n x z
+cut-first c n x y z first place same e = record {
+  list = first.list ∙ ap (λ l. c.formula ∷ l) (sym same);
+  formula = rw e first.formula;
+  rest = place;
+}
+
+-- the list of a focus is one formula, at a place
+pub focus-place : (x : Shared) (n : ℕ) → IsBelow (length x.cells) (Focus n) → IsServedTask (length x.terms.items) x.cells (Focus n) → IsPlace x n
+focus-place x n below (h, is, served) = (below, subst (AreServed (length x.terms.items)) (sym is) (served, tt))
+
+pub focus-some : (x : Shared) (n : ℕ) → IsServedTask (length x.terms.items) x.cells (Focus n) → suc 0 ≤ n
+focus-some x zero (h, is, served) = let none : chain x.cells 0 ≡ [] = chain-end x.cells in let no : ⊥ = cc in absurd no
+focus-some x (suc n) served = omega arith
 
 -- the stored formulas and the terms of a sequent that was taken off the others
 Alike-take : (k : ℕ) (s : List Held) → Alike k s (take k s)
