@@ -16,9 +16,6 @@ use Rattle.polarised_formulas.specs.Scope.{is_scoped, may_be_cut}
 use Rattle.lkf_rules.specs.Values.{premise_list, Gives, Answers, MayRunOut}
 use Rattle.polarised_formulas.proofs.NodeFacts.{polarity-root_node}
 use Rattle.polarised_formulas.proofs.Leaves.{InScope-is_scoped, IsOfLogic-may_be_cut, EachInside-may_be_cut, EachInside-weaker}
-use Rattle.std.specs.List.{AllByRecursion}
-use Rattle.lkf_rules.specs.declared.rules.effect.Effect.{Effect}
-use Rattle.lkf_rules.specs.Effect.{Tells, TellsTo}
 
 -- a term in scope has no bound index
 pub is_unbound : (n : ℕ) (t : Term) → is_scoped n 0 t ≡ true → Each Always Never Always t
@@ -32,11 +29,6 @@ is_lkf n f passes = IsOfLogic-may_be_cut n Lkf 0 f passes
 pub is_proper : (n : ℕ) (f : Formula) → may_be_cut Lkf n 0 f ≡ true → IsProper Always f
 is_proper n f passes = EachInside-weaker (λ m. m < n) Always (λ m h. tt) 0 f (EachInside-may_be_cut n Lkf 0 f passes)
 
--- what holds of all formulas holds of each of some
-pub nothing_needed : (n : ℕ) (fs : List Formula) → AllByRecursion (λ f. 0 ≤ n) fs
-nothing_needed n [] = tt
-nothing_needed n (f ∷ fs) = (omega arith, nothing_needed n fs)
-
 pub ruleset polarity_facts = (polarity-root_node)
 
 pub ruleset step_facts = (is_unbound)
@@ -47,13 +39,6 @@ pub ruleset cut_facts = (is_lkf)
 pub MayRunOut-some : (step : Step) (o : Option (List Levelled)) → IsSome o → MayRunOut step o
 MayRunOut-some (Cut b) o h = tt
 MayRunOut-some _ o h = h
-
--- what is told at each step is told at this one
-pub TellsTo-tells : {F : Type 0} (m : F → Formula) (step : Step) (r : Result (Effect F) StepRefusal) (n : ℕ) (s g : List Formula) (o : Option (List Levelled))
-    → Tells m r n s g o → TellsTo m step r n s g o
-TellsTo-tells m step (Ok e) n s g o h = h
-TellsTo-tells m step (Err DoesNotFit) n s g o h = h
-TellsTo-tells m step (Err OutOfMemory) n s g o h = MayRunOut-some step o h
 
 -- an answer for which memory runs out only at premises is one to each step
 pub Answers-gives : (step : Step) (r : Result Premises StepRefusal) (o : Option (List Levelled)) → Gives r o → Answers step r o

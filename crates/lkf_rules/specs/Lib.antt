@@ -8,4 +8,4 @@ pub mod Certificate
 pub mod Play
 pub mod Laws
 pub mod Values
-pub mod Effect
+pub mod Table

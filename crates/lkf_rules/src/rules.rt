@@ -5,9 +5,7 @@ ghost use Rattle.lkf_rules.specs.Premises.{premises_of};
 ghost use Rattle.lkf_rules.specs.Instance.{IsInstance};
 ghost use Rattle.lkf_rules.specs.Values.{levelled, premise_list, Answers, MayRunOut};
 
-pub mod effect;
 pub mod outcome;
-mod storable;
 pub mod table;
 mod whole;
 
@@ -44,23 +42,14 @@ fn answer_to(alloc: Global, sequent: &Sequent, step: &Step) -> Result<Premises, 
             stored,
             work,
         } => match work.items() {
-            [first, rest @ ..] => match on_first(alloc, *level, first, step) {
-                Ok(effect) => effect.premises(alloc, *level, stored, rest),
-                Err(refusal) => Err(refusal),
-            },
-            [] => match on_nothing(alloc, *level, stored.items(), step) {
-                Ok(effect) => effect.premises(alloc, *level, stored, &[]),
-                Err(refusal) => Err(refusal),
-            },
+            [first, rest @ ..] => on_first(alloc, *level, stored, first, rest, step),
+            [] => on_nothing(alloc, *level, stored, step),
         },
         Sequent::Down {
             level,
             stored,
             focus,
-        } => match on_focus(alloc, *level, stored.items(), focus, step) {
-            Ok(effect) => effect.premises(alloc, *level, stored, &[]),
-            Err(refusal) => Err(refusal),
-        },
+        } => on_focus(alloc, *level, stored, focus, step),
     }
 }
 

@@ -93,6 +93,21 @@ pub(crate) fn with_first(
     list.extended(rest)
 }
 
+/// The list of two formulas and copies of others behind them.
+pub(crate) fn with_both(
+    alloc: Global,
+    first: Formula,
+    second: Formula,
+    rest: &[Formula],
+) -> Result<Formulas, outside::OutOfMemory>
+    ensures { IfOk result (λ l. l ≡ first ∷ second ∷ rest.now) }
+{
+    let mut list = Formulas::new(alloc);
+    list.push(first)?;
+    list.push(second)?;
+    list.extended(rest)
+}
+
 /// The list of one formula.
 pub(crate) fn only(alloc: Global, f: Formula) -> Result<Formulas, outside::OutOfMemory>
     ensures { IfOk result (λ l. l ≡ f ∷ []) }

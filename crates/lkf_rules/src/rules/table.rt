@@ -1,8 +1,10 @@
 //! The rules of LKF as a table: each step with what it asks of the formula that it works on, and what
 //! it does. No answer holds a formula, so it is the same however a sequent holds its formulas.
-ghost use Rattle.std.specs.Prelude.{◌≡◌, ℕ, List, [], ◌≤◌, Some, None, IfSome, IfNone, slice_get, length, if◌then◌else◌};
-ghost use Rattle.polarised_formulas.specs.Formula.{Formula, root_node};
+ghost use Rattle.std.specs.Prelude.{◌≡◌, ℕ, List, [], ◌∷◌, ◌≤◌, true, Some, None, IfSome, IfNone, slice_get, length, if◌then◌else◌};
+ghost use Rattle.fpc_terms.specs.Term.{Args};
+ghost use Rattle.polarised_formulas.specs.Formula.{Formula, atom, root_node};
 ghost use Rattle.lkf_rules.specs.Premises.{worked, focused, decided, closed_with};
+ghost use Rattle.lkf_rules.specs.Rule.{is_storable};
 ghost use Rattle.lkf_rules.specs.Sequent.{down};
 ghost use Rattle.lkf_rules.specs.Table.{worked_by, focused_by, IsWorkable, IsFocusable, BringsNothing};
 
@@ -67,6 +69,7 @@ pub fn work_effect(step: &Step, node: Node) -> Option<WorkEffect>
 
 /// The rules of the positive phase but for `some` and `init`, each with the step and the outermost
 /// node of the formula under focus that it asks for. Constant time.
+#[tactic(auto, using(crate::proofs::StepFacts::polarity_facts))]
 pub fn focus_effect(step: &Step, node: Node) -> Option<FocusEffect>
     ensures effect { (n : ℕ) (s : List Formula) (f : Formula) → node ≡ root_node f
         → BringsNothing step.now → focused step.now n s f ≡ focused_by result n s f }
@@ -93,6 +96,7 @@ pub fn stored_at<F>(stored: &[F], k: u64) -> Option<&F>
 }
 
 /// Whether `decide` may put a stored formula with this outermost node under focus.
+#[tactic(auto, using(crate::proofs::StepFacts::polarity_facts))]
 pub fn may_decide(node: Node) -> bool
     ensures { (n : ℕ) (s : List Formula) (f : Formula) → node ≡ root_node f
         → decided n s (Some f) ≡ (if result then Some ((n, down s f) ∷ []) else None) }
@@ -125,6 +129,7 @@ pub fn may_close<F: HeldFormula>(focus: &F, other: &F, terms: &[TermBuf]) -> boo
         _ => false,
     }
 }
+
 /// Whether the second formula is the dual of the first one, which is a literal.
 fn are_dual<F: HeldFormula>(literal: &F, other: &F, terms: &[TermBuf]) -> bool
     requires first { F.reach literal.now ≤ length terms.now }
