@@ -165,12 +165,15 @@ next-below cs k c low (front, back, is, behind) =
 pub no-place : (x : Shared) → IsPlace x 0
 no-place x = (omega arith, subst (AreServed (length x.terms.items)) (sym (chain-end x.cells)) tt)
 
--- the first cell of the list at a place
-pub first-cell : (x : Shared) (k : ℕ) (c : Cell) → GoDown x.cells → IsPlace x (suc k) → StandsAt x.cells k c → IsFirst c (suc k) x x
-first-cell x k c low place stands =
+cell-first : (x : Shared) (k : ℕ) (c : Cell) → GoDown x.cells → IsPlace x (suc k) → StandsAt x.cells k c → IsFirst c (suc k) x x
+cell-first x k c low place stands =
     let list : chain x.cells (suc k) ≡ c.formula ∷ chain x.cells c.next = chain-stands x.cells k c low stands in
     let served : AreServed (length x.terms.items) (c.formula ∷ chain x.cells c.next) = subst (AreServed (length x.terms.items)) list place.1 in
     record { list = list; formula = served.0; rest = (next-below x.cells k c low stands, served.1) }
+
+-- the first cell of the list at a place
+pub first-cell : (x : Shared) (n k : ℕ) (c : Cell) → n ≡ suc k → GoDown x.cells → IsPlace x n → StandsAt x.cells k c → IsFirst c n x x
+first-cell x n k c e low place stands = subst (λ i. IsFirst c i x x) (sym e) (cell-first x k c low (subst (IsPlace x) e place) stands)
 
 -- one more stored formula
 Alike-more : (s : List Held) (h : Held) → Alike (length s) s (s ++ h ∷ [])
@@ -243,9 +246,9 @@ IsBefore-next cs ds n c low (front, is, long) =
     let next : c.next ≤ length ds = here.0 in
     omega (arith, next, long)
 
-pub taken-first : (x y : Shared) (n : ℕ) (c : Cell) → GoDown x.cells → IsPlace x (suc n) → IsBefore x.cells n c y.cells → y.terms ≡ x.terms → IsFirst c (suc n) x y
-taken-first x y n c low place before e =
-    let first : IsFirst c (suc n) x x = first-cell x n c low place (IsBefore-stands x.cells y.cells n c before) in
+pub taken-first : (x y : Shared) (k n : ℕ) (c : Cell) → k ≡ suc n → GoDown x.cells → IsPlace x k → IsBefore x.cells n c y.cells → y.terms ≡ x.terms → IsFirst c k x y
+taken-first x y k n c is low place before e =
+    let first : IsFirst c k x x = first-cell x k n c is low place (IsBefore-stands x.cells y.cells n c before) in
     let lowest : IsLowest x.cells n y.cells = IsBefore-lowest x.cells y.cells n c before in
     let next : c.next ≤ n = IsBefore-next x.cells y.cells n c low before in
     record {
@@ -414,3 +417,5 @@ cell-grows c x y h e a b d sound = record {
   };
   chains = λ n below. rw e (chain-under c x.cells n below);
 }
+
+pub ruleset ready_facts = (ready-sound, no-place)

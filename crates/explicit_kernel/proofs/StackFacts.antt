@@ -1,5 +1,5 @@
 -- Places in a list that is told from its end.
-use Rattle.std.proofs.Common.{◌≡◌, ℕ, suc, ◌≤◌, ◌<◌, List, [], ◌∷◌, ◌++◌, length, take, drop, reverse, sym, ap, ◌∙◌, arith, get_or}
+use Rattle.std.proofs.Common.{◌≡◌, ℕ, suc, ◌+◌, ◌≤◌, ◌<◌, List, [], ◌∷◌, ◌++◌, length, take, drop, reverse, sym, ap, ◌∙◌, arith, get_or}
 use Rattle.std.proofs.Math.Seq.{split_at}
 use Rattle.std.proofs.lemmas.List.{reverse-append, length-reverse, length-take, length-append, take-append-drop, append_assoc}
 use Rattle.explicit_kernel.specs.Stack.{StandsAt, IsLowest, IsBefore}
@@ -20,10 +20,10 @@ pub lowest : {X : Type 0} (xs ys : List X) (n : ℕ) → n ≤ length xs → ys 
 lowest xs ys n h e = rw e
     (reverse (drop n xs), ap reverse (sym (take-append-drop n xs)) ∙ reverse-append (take n xs) (drop n xs), omega (arith, h, length-reverse (take n xs), length-take n xs))
 
-pub stands-before : {X : Type 0} (xs ys : List X) (n : ℕ) (x : X) → n < length xs → take (suc n) xs ≡ ys ++ x ∷ [] → IsBefore (reverse xs) n x (reverse ys)
+pub stands-before : {X : Type 0} (xs ys : List X) (n : ℕ) (x : X) → n < length xs → take (n + 1) xs ≡ ys ++ x ∷ [] → IsBefore (reverse xs) n x (reverse ys)
 stands-before xs ys n x h e = (
-  reverse (drop (suc n) xs),
-  ap reverse (sym (take-append-drop (suc n) xs)) ∙ reverse-append (take (suc n) xs) (drop (suc n) xs)
-  ∙ ap (λ l. reverse (drop (suc n) xs) ++ l) (ap reverse e ∙ reverse-append ys (x ∷ [])),
-  omega (arith, h, length-reverse ys, ap length e, length-append ys (x ∷ []), length-take (suc n) xs),
+  reverse (drop (n + 1) xs),
+  ap reverse (sym (take-append-drop (n + 1) xs)) ∙ reverse-append (take (n + 1) xs) (drop (n + 1) xs)
+  ∙ ap (λ l. reverse (drop (n + 1) xs) ++ l) (ap reverse e ∙ reverse-append ys (x ∷ [])),
+  omega (arith, h, length-reverse ys, ap length e, length-append ys (x ∷ []), length-take (n + 1) xs),
 )

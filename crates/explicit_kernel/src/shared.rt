@@ -119,6 +119,7 @@ impl Shared {
 
     /// Puts a formula before the worked list at a place, and gives the place of the longer list.
     #[inline]
+    #[tactic(auto, using(crate::proofs::Sharing::ready_facts))]
     fn put_before(&mut self, formula: Closure<Given>, next: usize) -> Result<usize, OutOfMemory>
         requires sound { IsSound self.old }
         requires served { IsServed (length self.old.terms.items) formula }
@@ -159,6 +160,7 @@ impl Shared {
 
     /// Puts a sequent before the others that works on a formula and then on the list at a place.
     #[inline]
+    #[tactic(auto, using(crate::proofs::Sharing::ready_facts))]
     fn open_first(
         &mut self,
         level: u64,
@@ -184,6 +186,7 @@ impl Shared {
 
     /// Puts a sequent before the others that has a formula under focus.
     #[inline]
+    #[tactic(auto, using(crate::proofs::Sharing::ready_facts))]
     fn open_focus(
         &mut self,
         level: u64,
@@ -264,6 +267,7 @@ impl Shared {
 
     /// The first cell of the worked list at a place.
     #[inline]
+    #[tactic(auto, using(crate::proofs::Sharing::ready_facts))]
     fn first_at(&self, place: usize) -> &Cell
         requires down { GoDown self.now.cells }
         requires place { IsPlace self.now place }
@@ -276,6 +280,7 @@ impl Shared {
     /// Takes the first cell off the worked list at a place; a cell that the other sequents need
     /// stays, and is copied.
     #[inline]
+    #[tactic(auto, using(crate::proofs::Sharing::ready_facts))]
     fn take_first(&mut self, floor: usize, place: usize) -> Result<Cell, OutOfMemory>
         requires ready { IsReady floor self.old }
         requires place { IsPlace self.old place }
@@ -296,6 +301,7 @@ impl Shared {
     /// Takes the first cell off the worked list at a place, and drops the cells that neither the
     /// sequents nor the rest of the list need.
     #[inline]
+    #[tactic(auto, using(crate::proofs::Sharing::ready_facts))]
     fn take_up(&mut self, floor: usize, place: usize) -> Result<Cell, OutOfMemory>
         requires ready { IsReady floor self.old }
         requires place { IsPlace self.old place }
