@@ -14,7 +14,6 @@ use Rattle.lkf_rules.specs.declared.rules.outcome.StepRefusal.TheVariants.{DoesN
 use Rattle.lkf_rules.specs.Sequent.{Levelled}
 use Rattle.polarised_formulas.specs.Scope.{is_scoped, may_be_cut}
 use Rattle.lkf_rules.specs.Values.{premise_list, Gives, Answers, MayRunOut}
-use Rattle.polarised_formulas.proofs.NodeFacts.{polarity-root_node}
 use Rattle.polarised_formulas.proofs.Leaves.{InScope-is_scoped, IsOfLogic-may_be_cut, EachInside-may_be_cut, EachInside-weaker}
 
 -- a term in scope has no bound index
@@ -28,12 +27,6 @@ is_lkf n f passes = IsOfLogic-may_be_cut n Lkf 0 f passes
 -- a formula that may be cut is proper
 pub is_proper : (n : ℕ) (f : Formula) → may_be_cut Lkf n 0 f ≡ true → IsProper Always f
 is_proper n f passes = EachInside-weaker (λ m. m < n) Always (λ m h. tt) 0 f (EachInside-may_be_cut n Lkf 0 f passes)
-
-pub ruleset polarity_facts = (polarity-root_node)
-
-pub ruleset step_facts = (is_unbound)
-
-pub ruleset cut_facts = (is_lkf)
 
 -- memory may run out at each step that names premises
 pub MayRunOut-some : (step : Step) (o : Option (List Levelled)) → IsSome o → MayRunOut step o

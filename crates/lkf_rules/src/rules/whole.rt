@@ -2,7 +2,7 @@
 ghost use Rattle.std.specs.Prelude.{◌≡◌, ◌<◌, ◌-◌, ◌^◌, Some, IfOk, slice_get};
 ghost use Rattle.fpc_terms.specs.Term.{Each, Always, Never};
 ghost use Rattle.polarised_formulas.specs.Formula.{open_at};
-ghost use Rattle.polarised_formulas.specs.Parts.{left_of, right_of, body_of, IsPair, IsQuantified};
+ghost use Rattle.polarised_formulas.specs.Parts.{body_of, IsQuantified};
 ghost use Rattle.lkf_rules.specs.Premises.{worked, chosen, focused, decided, closed_with};
 ghost use Rattle.lkf_rules.specs.Table.{worked_by, focused_by, IsWorkable, IsFocusable};
 ghost use Rattle.lkf_rules.specs.Values.{Gives, Answers};
@@ -27,14 +27,6 @@ use polarised_formulas::scope::{is_in_scope, may_be_cut};
 use polarised_formulas::shape::outermost;
 use polarised_formulas::step::Step;
 use std::alloc::Global;
-
-/// The two parts of a formula.
-fn both_parts(alloc: Global, f: &Formula) -> Result<(Formula, Formula), OutOfMemory>
-    requires { IsPair f.now }
-    ensures { IfOk result (λ p. p ≡ (left_of f.now, right_of f.now)) }
-{
-    parts(alloc, f)
-}
 
 /// The body of a formula with a term in the place of the index that the quantifier binds.
 fn body_at(alloc: Global, f: &Formula, t: &TermBuf) -> Result<Formula, OutOfMemory>
@@ -62,11 +54,11 @@ fn worked_premises(
         WorkEffect::Close => Ok(Premises::None),
         WorkEffect::Pass => one_up(level, stored, Formulas::new(alloc).extended(rest)?),
         WorkEffect::Both => {
-            let (left, right) = both_parts(alloc, first)?;
+            let (left, right) = parts(alloc, first)?;
             one_up(level, stored, with_both(alloc, left, right, rest)?)
         }
         WorkEffect::Split => {
-            let (left, right) = both_parts(alloc, first)?;
+            let (left, right) = parts(alloc, first)?;
             let left = with_first(alloc, left, rest)?;
             let right = with_first(alloc, right, rest)?;
             two_up(level, stored, left, right)
@@ -116,7 +108,7 @@ fn decide(level: u64, stored: &Formulas, k: u64) -> Result<Premises, StepRefusal
 }
 
 /// The step `cut`. Memory may run out before it is known whether the formula may be cut.
-#[tactic(auto, using(crate::proofs::StepFacts::cut_facts))]
+#[tactic(auto, using(crate::proofs::StepFacts::is_lkf))]
 fn cut(
     alloc: Global,
     level: u64,
@@ -162,11 +154,11 @@ fn focused_premises(
     match effect {
         FocusEffect::Close => Ok(Premises::None),
         FocusEffect::Split => {
-            let (left, right) = both_parts(alloc, focus)?;
+            let (left, right) = parts(alloc, focus)?;
             two_down(level, stored, left, right)
         }
         FocusEffect::Side(side) => {
-            let (left, right) = both_parts(alloc, focus)?;
+            let (left, right) = parts(alloc, focus)?;
             match side {
                 Side::Left => one_down(level, stored, left),
                 Side::Right => one_down(level, stored, right),
@@ -177,7 +169,7 @@ fn focused_premises(
 }
 
 /// The step `some`.
-#[tactic(auto, using(crate::proofs::StepFacts::step_facts))]
+#[tactic(auto, using(crate::proofs::StepFacts::is_unbound))]
 fn instantiate(
     alloc: Global,
     level: u64,
