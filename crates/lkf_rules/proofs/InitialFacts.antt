@@ -2,10 +2,8 @@
 use Rattle.std.proofs.Common.{◌≡◌, ℕ, [], refl, subst, arith}
 use Rattle.std.proofs.lemmas.Bool.{eq-eqb}
 use Rattle.std.specs.Prelude.{◌↔◌, Bool, true, false, ◌&&◌, nat_eq, Some, None, IsTrue, if◌then◌else◌}
-use Rattle.fpc_terms.specs.Term.{Args, same_args, count}
+use Rattle.fpc_terms.specs.Term.{Args, same_args}
 use Rattle.polarised_formulas.specs.Formula.{Formula, truth, falsity, atom, conj, disj, implies, for_all, exists, dual_of, root_node}
-use Rattle.polarised_formulas.specs.declared.node.Node.{Node}
-use Rattle.polarised_formulas.specs.declared.node.Node.TheVariants.{Atom}
 use Rattle.polarised_formulas.specs.Nodes.{node_dual}
 use Rattle.polarised_formulas.specs.Held.{literal_arguments}
 use Rattle.polarised_formulas.proofs.Leaves.{same_args-equal, same_args-reflexive}

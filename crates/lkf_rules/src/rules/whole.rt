@@ -28,15 +28,6 @@ use polarised_formulas::shape::outermost;
 use polarised_formulas::step::Step;
 use std::alloc::Global;
 
-/// The body of a formula with a term in the place of the index that the quantifier binds.
-fn body_at(alloc: Global, f: &Formula, t: &TermBuf) -> Result<Formula, OutOfMemory>
-    requires quantified { IsQuantified f.now }
-    requires unbound { Each Always Never Always t.now }
-    ensures { IfOk result (λ g. g ≡ open_at 0 t.now (body_of f.now)) }
-{
-    open_with(alloc, f, t)
-}
-
 /// The premises that an effect names.
 fn worked_premises(
     alloc: Global,
@@ -65,7 +56,7 @@ fn worked_premises(
         }
         WorkEffect::Raise => {
             let eigenvariable = TermBuf::from_cells(alloc, &[Cell::Eigen(level)])?;
-            let body = body_at(alloc, first, &eigenvariable)?;
+            let body = open_with(alloc, first, &eigenvariable)?;
             one_up(level + 1, stored, with_first(alloc, body, rest)?)
         }
         WorkEffect::Store => {
@@ -182,7 +173,7 @@ fn instantiate(
     match outermost(focus) {
         Node::Exists => {
             fits(is_in_scope(t, level))?;
-            one_down(level, stored, body_at(alloc, focus, t)?)
+            one_down(level, stored, open_with(alloc, focus, t)?)
         }
         _ => Err(StepRefusal::DoesNotFit),
     }
