@@ -1,8 +1,5 @@
 //! The rules over whole formulas: the premises that the table's answer names.
-ghost use Rattle.std.specs.Prelude.{◌≡◌, ◌<◌, ◌-◌, ◌^◌, Some, IfOk, slice_get};
-ghost use Rattle.fpc_terms.specs.Term.{Each, Always, Never};
-ghost use Rattle.polarised_formulas.specs.Formula.{open_at};
-ghost use Rattle.polarised_formulas.specs.Parts.{body_of, IsQuantified};
+ghost use Rattle.std.specs.Prelude.{◌<◌, ◌-◌, ◌^◌, Some, slice_get};
 ghost use Rattle.lkf_rules.specs.Premises.{worked, chosen, focused, decided, closed_with};
 ghost use Rattle.lkf_rules.specs.Table.{worked_by, focused_by, IsWorkable, IsFocusable};
 ghost use Rattle.lkf_rules.specs.Values.{Gives, Answers};
@@ -13,7 +10,6 @@ use crate::rules::outcome::{
 use crate::rules::table::{
     FocusEffect, WorkEffect, focus_effect, may_close, may_decide, stored_at, work_effect,
 };
-use fpc_base::outside::OutOfMemory;
 use fpc_terms::cell::Cell;
 use fpc_terms::term::TermBuf;
 use polarised_formulas::dual::dual;
@@ -28,7 +24,7 @@ use polarised_formulas::shape::outermost;
 use polarised_formulas::step::Step;
 use std::alloc::Global;
 
-/// The premises that an effect names.
+/// The premises that an effect on the first worked formula names.
 fn worked_premises(
     alloc: Global,
     level: u64,
@@ -131,7 +127,7 @@ pub(crate) fn on_nothing(
     }
 }
 
-/// The premises that an effect names.
+/// The premises that an effect on the formula under focus names.
 fn focused_premises(
     alloc: Global,
     level: u64,
