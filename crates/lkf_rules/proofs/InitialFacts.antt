@@ -2,10 +2,8 @@
 use Rattle.std.proofs.Common.{◌≡◌, ℕ, [], refl, subst, arith}
 use Rattle.std.proofs.lemmas.Bool.{eq-eqb}
 use Rattle.std.specs.Prelude.{◌↔◌, Bool, true, false, ◌&&◌, nat_eq, Some, None, IsTrue, if◌then◌else◌}
-use Rattle.fpc_terms.specs.Term.{Args, same_args, count}
+use Rattle.fpc_terms.specs.Term.{Args, same_args}
 use Rattle.polarised_formulas.specs.Formula.{Formula, truth, falsity, atom, conj, disj, implies, for_all, exists, dual_of, root_node}
-use Rattle.polarised_formulas.specs.declared.node.Node.{Node}
-use Rattle.polarised_formulas.specs.declared.node.Node.TheVariants.{Atom}
 use Rattle.polarised_formulas.specs.Nodes.{node_dual}
 use Rattle.polarised_formulas.specs.Held.{literal_arguments}
 use Rattle.polarised_formulas.proofs.Leaves.{same_args-equal, same_args-reflexive}
@@ -16,7 +14,7 @@ closes_if_same name other ts us true e h = absurd (h (grind (arith, same_args-eq
 closes_if_same name other ts us false e h = refl
 
 -- a formula closes with nothing but its dual
-pub closes-only_dual : (f g : Formula) → (dual_of f ≡ g → ⊥) → closed_with f (Some g) ≡ None
+closes-only_dual : (f g : Formula) → (dual_of f ≡ g → ⊥) → closed_with f (Some g) ≡ None
 closes-only_dual (atom true name ts) (atom false other us) h =
     rw (closes_if_same name other ts us (nat_eq name other && same_args ts us) refl h)
 closes-only_dual _ _ h = refl
@@ -47,5 +45,3 @@ closes-alike name ts f (exists x) b e d h = let no : ⊥ = cc in absurd no
 -- and it closes with no formula of another shape
 pub closes-unlike : (name : ℕ) (ts : Args) (f g : Formula) → f ≡ atom true name ts → (node_dual (root_node f) ≡ root_node g → ⊥) → closed_with (atom true name ts) (Some g) ≡ None
 closes-unlike name ts f g e d = closes-only_dual (atom true name ts) g (λ same. d (rw (e, ← same) refl))
-
-pub ruleset initial_facts = (closes-only_dual, closes-dual)

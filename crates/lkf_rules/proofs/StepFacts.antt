@@ -1,20 +1,17 @@
 -- What the answer to a step says, and what may be put in or cut.
-use Rattle.std.proofs.Common.{◌≡◌, ◌≢◌, ◌↔◌, ◌<◌, ◌≤◌, ℕ, List, [], ◌∷◌, refl, arith}
+use Rattle.std.proofs.Common.{◌≡◌, ◌≢◌, ◌↔◌, ◌<◌, ℕ, List, refl}
 use Rattle.std.specs.Prelude.{true, Option, Some, None, Result, Ok, Err, IfOk}
-use Rattle.std.specs.Option.{IsSome}
 use Rattle.fpc_terms.specs.Term.{Term, Each, Always, Never}
 use Rattle.fpc_terms.proofs.ScopeFacts.{Each-weaker}
 use Rattle.polarised_formulas.specs.declared.logic.Logic.TheVariants.{Lkf}
 use Rattle.polarised_formulas.specs.declared.step.Step.{Step}
-use Rattle.polarised_formulas.specs.declared.step.Step.TheVariants.{Cut}
 use Rattle.polarised_formulas.specs.Formula.{Formula, IsLkf, IsProper}
 use Rattle.lkf_rules.specs.declared.rules.outcome.Premises.{Premises}
 use Rattle.lkf_rules.specs.declared.rules.outcome.StepRefusal.{StepRefusal}
 use Rattle.lkf_rules.specs.declared.rules.outcome.StepRefusal.TheVariants.{DoesNotFit, OutOfMemory}
 use Rattle.lkf_rules.specs.Sequent.{Levelled}
 use Rattle.polarised_formulas.specs.Scope.{is_scoped, may_be_cut}
-use Rattle.lkf_rules.specs.Values.{premise_list, Gives, Answers, MayRunOut}
-use Rattle.polarised_formulas.proofs.NodeFacts.{polarity-root_node}
+use Rattle.lkf_rules.specs.Values.{premise_list, Answers, MayRunOut}
 use Rattle.polarised_formulas.proofs.Leaves.{InScope-is_scoped, IsOfLogic-may_be_cut, EachInside-may_be_cut, EachInside-weaker}
 
 -- a term in scope has no bound index
@@ -28,23 +25,6 @@ is_lkf n f passes = IsOfLogic-may_be_cut n Lkf 0 f passes
 -- a formula that may be cut is proper
 pub is_proper : (n : ℕ) (f : Formula) → may_be_cut Lkf n 0 f ≡ true → IsProper Always f
 is_proper n f passes = EachInside-weaker (λ m. m < n) Always (λ m h. tt) 0 f (EachInside-may_be_cut n Lkf 0 f passes)
-
-pub ruleset polarity_facts = (polarity-root_node)
-
-pub ruleset step_facts = (is_unbound)
-
-pub ruleset cut_facts = (is_lkf)
-
--- memory may run out at each step that names premises
-pub MayRunOut-some : (step : Step) (o : Option (List Levelled)) → IsSome o → MayRunOut step o
-MayRunOut-some (Cut b) o h = tt
-MayRunOut-some _ o h = h
-
--- an answer for which memory runs out only at premises is one to each step
-pub Answers-gives : (step : Step) (r : Result Premises StepRefusal) (o : Option (List Levelled)) → Gives r o → Answers step r o
-Answers-gives step (Ok p) o h = h
-Answers-gives step (Err DoesNotFit) o h = h
-Answers-gives step (Err OutOfMemory) o h = MayRunOut-some step o h
 
 pub Answers-fits : (step : Step) (r : Result Premises StepRefusal) (o : Option (List Levelled)) → Answers step r o → IfOk r (λ p. o ≡ Some (premise_list p))
 Answers-fits step (Ok p) o h = h
@@ -68,4 +48,4 @@ Answers-memory step (Ok p) o h e = cc
 Answers-memory step (Err DoesNotFit) o h e = cc
 Answers-memory step (Err OutOfMemory) o h e = h
 
-pub ruleset answer_facts = (Answers-gives, Answers-fits, Answers-unfit, Answers-memory)
+pub ruleset answer_facts = (Answers-fits, Answers-unfit, Answers-memory)

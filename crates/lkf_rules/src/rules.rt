@@ -31,7 +31,6 @@ pub fn root(alloc: Global, goal: &Formula) -> Result<Sequent, OutOfMemory>
 }
 
 /// What a step comes to at a sequent.
-#[tactic(auto, using(crate::proofs::StepFacts::answer_facts))]
 fn answer_to(alloc: Global, sequent: &Sequent, step: &Step) -> Result<Premises, StepRefusal>
     requires level { (levelled sequent.now).0 < 2 ^ 64 - 1 }
     ensures { Answers step.now result (premises_of step.now (levelled sequent.now).0 (levelled sequent.now).1) }

@@ -69,7 +69,6 @@ pub fn work_effect(step: &Step, node: Node) -> Option<WorkEffect>
 
 /// The rules of the positive phase but for `some` and `init`, each with the step and the outermost
 /// node of the formula under focus that it asks for. Constant time.
-#[tactic(auto, using(crate::proofs::StepFacts::polarity_facts))]
 pub fn focus_effect(step: &Step, node: Node) -> Option<FocusEffect>
     ensures effect { (n : ℕ) (s : List Formula) (f : Formula) → node ≡ root_node f
         → BringsNothing step.now → focused step.now n s f ≡ focused_by result n s f }
@@ -96,7 +95,6 @@ pub fn stored_at<F>(stored: &[F], k: u64) -> Option<&F>
 }
 
 /// Whether `decide` may put a stored formula with this outermost node under focus.
-#[tactic(auto, using(crate::proofs::StepFacts::polarity_facts))]
 pub fn may_decide(node: Node) -> bool
     ensures { (n : ℕ) (s : List Formula) (f : Formula) → node ≡ root_node f
         → decided n s (Some f) ≡ (if result then Some ((n, down s f) ∷ []) else None) }

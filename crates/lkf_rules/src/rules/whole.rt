@@ -1,8 +1,5 @@
 //! The rules over whole formulas: the premises that the table's answer names.
-ghost use Rattle.std.specs.Prelude.{◌≡◌, ◌<◌, ◌-◌, ◌^◌, Some, IfOk, slice_get};
-ghost use Rattle.fpc_terms.specs.Term.{Each, Always, Never};
-ghost use Rattle.polarised_formulas.specs.Formula.{open_at};
-ghost use Rattle.polarised_formulas.specs.Parts.{left_of, right_of, body_of, IsPair, IsQuantified};
+ghost use Rattle.std.specs.Prelude.{◌<◌, ◌-◌, ◌^◌, Some, slice_get};
 ghost use Rattle.lkf_rules.specs.Premises.{worked, chosen, focused, decided, closed_with};
 ghost use Rattle.lkf_rules.specs.Table.{worked_by, focused_by, IsWorkable, IsFocusable};
 ghost use Rattle.lkf_rules.specs.Values.{Gives, Answers};
@@ -13,7 +10,6 @@ use crate::rules::outcome::{
 use crate::rules::table::{
     FocusEffect, WorkEffect, focus_effect, may_close, may_decide, stored_at, work_effect,
 };
-use fpc_base::outside::OutOfMemory;
 use fpc_terms::cell::Cell;
 use fpc_terms::term::TermBuf;
 use polarised_formulas::dual::dual;
@@ -28,24 +24,7 @@ use polarised_formulas::shape::outermost;
 use polarised_formulas::step::Step;
 use std::alloc::Global;
 
-/// The two parts of a formula.
-fn both_parts(alloc: Global, f: &Formula) -> Result<(Formula, Formula), OutOfMemory>
-    requires { IsPair f.now }
-    ensures { IfOk result (λ p. p ≡ (left_of f.now, right_of f.now)) }
-{
-    parts(alloc, f)
-}
-
-/// The body of a formula with a term in the place of the index that the quantifier binds.
-fn body_at(alloc: Global, f: &Formula, t: &TermBuf) -> Result<Formula, OutOfMemory>
-    requires quantified { IsQuantified f.now }
-    requires unbound { Each Always Never Always t.now }
-    ensures { IfOk result (λ g. g ≡ open_at 0 t.now (body_of f.now)) }
-{
-    open_with(alloc, f, t)
-}
-
-/// The premises that an effect names.
+/// The premises that an effect on the first worked formula names.
 fn worked_premises(
     alloc: Global,
     level: u64,
@@ -62,18 +41,18 @@ fn worked_premises(
         WorkEffect::Close => Ok(Premises::None),
         WorkEffect::Pass => one_up(level, stored, Formulas::new(alloc).extended(rest)?),
         WorkEffect::Both => {
-            let (left, right) = both_parts(alloc, first)?;
+            let (left, right) = parts(alloc, first)?;
             one_up(level, stored, with_both(alloc, left, right, rest)?)
         }
         WorkEffect::Split => {
-            let (left, right) = both_parts(alloc, first)?;
+            let (left, right) = parts(alloc, first)?;
             let left = with_first(alloc, left, rest)?;
             let right = with_first(alloc, right, rest)?;
             two_up(level, stored, left, right)
         }
         WorkEffect::Raise => {
             let eigenvariable = TermBuf::from_cells(alloc, &[Cell::Eigen(level)])?;
-            let body = body_at(alloc, first, &eigenvariable)?;
+            let body = open_with(alloc, first, &eigenvariable)?;
             one_up(level + 1, stored, with_first(alloc, body, rest)?)
         }
         WorkEffect::Store => {
@@ -116,7 +95,7 @@ fn decide(level: u64, stored: &Formulas, k: u64) -> Result<Premises, StepRefusal
 }
 
 /// The step `cut`. Memory may run out before it is known whether the formula may be cut.
-#[tactic(auto, using(crate::proofs::StepFacts::cut_facts))]
+#[tactic(auto, using(crate::proofs::StepFacts::is_lkf))]
 fn cut(
     alloc: Global,
     level: u64,
@@ -148,7 +127,7 @@ pub(crate) fn on_nothing(
     }
 }
 
-/// The premises that an effect names.
+/// The premises that an effect on the formula under focus names.
 fn focused_premises(
     alloc: Global,
     level: u64,
@@ -162,11 +141,11 @@ fn focused_premises(
     match effect {
         FocusEffect::Close => Ok(Premises::None),
         FocusEffect::Split => {
-            let (left, right) = both_parts(alloc, focus)?;
+            let (left, right) = parts(alloc, focus)?;
             two_down(level, stored, left, right)
         }
         FocusEffect::Side(side) => {
-            let (left, right) = both_parts(alloc, focus)?;
+            let (left, right) = parts(alloc, focus)?;
             match side {
                 Side::Left => one_down(level, stored, left),
                 Side::Right => one_down(level, stored, right),
@@ -177,7 +156,7 @@ fn focused_premises(
 }
 
 /// The step `some`.
-#[tactic(auto, using(crate::proofs::StepFacts::step_facts))]
+#[tactic(auto, using(crate::proofs::StepFacts::is_unbound))]
 fn instantiate(
     alloc: Global,
     level: u64,
@@ -190,7 +169,7 @@ fn instantiate(
     match outermost(focus) {
         Node::Exists => {
             fits(is_in_scope(t, level))?;
-            one_down(level, stored, body_at(alloc, focus, t)?)
+            one_down(level, stored, open_with(alloc, focus, t)?)
         }
         _ => Err(StepRefusal::DoesNotFit),
     }

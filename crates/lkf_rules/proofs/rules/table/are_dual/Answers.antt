@@ -1,5 +1,4 @@
-use Rattle.std.proofs.Common.{◌≡◌, sym, ap, ◌∙◌, subst, rules}
-use Rattle.polarised_formulas.specs.Formula.{root_node, atom}
+use Rattle.std.proofs.Common.{◌≡◌, sym, ap, ◌∙◌, rules}
 use Rattle.polarised_formulas.specs.Nodes.{node_dual}
 use Rattle.lkf_rules.proofs.InitialFacts.{closes-alike, closes-unlike}
 use Rattle.lkf_rules.proofs.rules.table.are_dual.Goals as goal
