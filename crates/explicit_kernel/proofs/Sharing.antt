@@ -8,7 +8,8 @@ use Rattle.polarised_formulas.specs.Formula.{Formula}
 use Rattle.polarised_formulas.specs.Held.{AreUnbound}
 use Rattle.polarised_formulas.specs.Grows.{stands-grown}
 use Rattle.polarised_formulas.proofs.Elements.{AllByRecursion-weaker, AllByRecursion-append}
-use Rattle.lkf_rules.specs.Sequent.{Levelled}
+use Rattle.polarised_formulas.proofs.HeldFacts.{pair_part, quantified_part}
+use Rattle.lkf_rules.specs.Sequent.{Levelled, up}
 use Rattle.explicit_kernel.specs.declared.shared.Cell.{Cell}
 use Rattle.explicit_kernel.specs.declared.shared.Task.{Task}
 use Rattle.explicit_kernel.specs.declared.shared.Task.TheVariants.{Work, Focus}
@@ -282,6 +283,10 @@ pub focus-some : (x : Shared) (n : ℕ) → IsServedTask (length x.terms.items) 
 focus-some x zero (h, is, served) = let none : chain x.cells 0 ≡ [] = chain-end x.cells in let no : ⊥ = cc in absurd no
 focus-some x (suc n) served = omega arith
 
+-- a task that works on no list
+pub nothing-left : (ts : List Term) (s : List Held) (cs : List Cell) (task : Task) (k : ℕ) → task ≡ Work k → k ≡ 0 → sequent_of ts s cs task ≡ up (map (meant ts) s) []
+nothing-left ts s cs task k is z = rw (is, z, chain-end cs) refl
+
 -- the stored formulas and the terms of a sequent that was taken off the others
 Alike-take : (k : ℕ) (s : List Held) → Alike k s (take k s)
 Alike-take k s i h = sym (take-take i k s h)
@@ -418,4 +423,6 @@ cell-grows c x y h e a b d sound = record {
   chains = λ n below. rw e (chain-under c x.cells n below);
 }
 
-pub ruleset ready_facts = (ready-sound, no-place)
+pub ruleset ready_facts = (ready-sound, no-place, pair_part, quantified_part)
+
+pub ruleset body_facts = (ready-sound, terms-ready, quantified_part)

@@ -1,12 +1,13 @@
 //! How a step plays the next sequent: the table of rules says what it does, and the premises are put
 //! before the other sequents.
-ghost use Rattle.std.specs.Prelude.{◌≡◌, ◌<◌, ◌-◌, ◌^◌, ◌∷◌, length, Some, OnOk};
+ghost use Rattle.std.specs.Prelude.{◌≡◌, ◌<◌, ◌-◌, ◌^◌, ◌∷◌, [], length, Some, OnOk};
 ghost use Rattle.std.specs.List.{AllByRecursion};
-ghost use Rattle.polarised_formulas.specs.Scope.{is_scoped, may_be_cut};
-ghost use Rattle.polarised_formulas.specs.declared.logic.Logic.TheVariants.{Lkf};
+ghost use Rattle.fpc_terms.specs.Term.{Each, Always, Never};
+ghost use Rattle.polarised_formulas.specs.Formula.{open_at};
+ghost use Rattle.polarised_formulas.specs.Parts.{body_of, IsQuantified};
 ghost use Rattle.lkf_rules.specs.Sequent.{up, down};
-ghost use Rattle.lkf_rules.specs.Table.{worked_by, focused_by, IsWorkable, IsFocusable};
-ghost use Rattle.explicit_kernel.specs.Shared.{meant, IsServed, IsServedTask, IsPlace, stored_of, worked_at, sequent_of, IsBelow, IsReady, IsSound, IsTaken, taken_sequent, pending_of};
+ghost use Rattle.lkf_rules.specs.Table.{worked_by, focused_by, IsWorkable, IsFocusable, BringsNothing};
+ghost use Rattle.explicit_kernel.specs.Shared.{meant, IsServed, IsPlace, stored_of, worked_at, first_of, IsReady, IsSound, IsTaken, taken_sequent, pending_of};
 ghost use Rattle.explicit_kernel.specs.Naming.{Replaces, IsPlayed};
 
 use crate::shared::{Cell, Open, Shared, Task};
@@ -29,6 +30,7 @@ impl Shared {
     /// Puts the premises of an effect on the first worked formula, in a cell with the place of the
     /// rest, before the sequents.
     #[inline]
+    #[tactic(auto, using(crate::proofs::Sharing::ready_facts))]
     fn open_worked(
         &mut self,
         effect: WorkEffect,
@@ -76,6 +78,7 @@ impl Shared {
     /// Puts two sequents before the others, each of which works on a formula and then on the list
     /// at a place.
     #[inline]
+    #[tactic(auto, using(crate::proofs::Sharing::ready_facts))]
     fn split(
         &mut self,
         level: u64,
@@ -101,6 +104,7 @@ impl Shared {
 
     /// Puts the premises of an effect on the formula under focus before the sequents.
     #[inline]
+    #[tactic(auto, using(crate::proofs::Sharing::ready_facts))]
     fn open_focused(
         &mut self,
         effect: FocusEffect,
@@ -138,8 +142,33 @@ impl Shared {
         }
     }
 
+    /// Puts a sequent before the others that has the body of a formula with a term under focus.
+    #[inline]
+    #[tactic(auto, using(crate::proofs::Sharing::body_facts))]
+    fn open_body(
+        &mut self,
+        level: u64,
+        floor: usize,
+        formula: Closure<Given>,
+        t: TermBuf,
+    ) -> Result<(), OutOfMemory>
+        requires ready { IsReady floor self.old }
+        requires served { IsServed (length self.old.terms.items) formula }
+        requires quantified { IsQuantified (meant self.old.terms.items formula) }
+        requires unbound { Each Always Never Always t }
+        ensures sound { IsSound self.new }
+        ensures pending { OnOk result (Replaces
+            (Some ((level, down (stored_of self.old) (open_at 0 t (body_of (meant self.old.terms.items formula)))) ∷ []))
+            (pending_of self.old) (pending_of self.new)) }
+    {
+        let name = Given::Term(self.keep_term(t)?);
+        let body = formula.open_at(name)?;
+        self.open_focus(level, floor, body)
+    }
+
     /// Plays a step at a sequent that works on the list at a place.
     #[inline]
+    #[tactic(auto, using(crate::proofs::Sharing::ready_facts))]
     fn play_on_first(
         &mut self,
         level: u64,
@@ -170,6 +199,7 @@ impl Shared {
 
     /// The step `decide`, at a sequent with nothing left to work on.
     #[inline]
+    #[tactic(auto, using(crate::proofs::Sharing::ready_facts))]
     fn decide(&mut self, level: u64, floor: usize, k: u64) -> Result<(), StepRefusal>
         requires ready { IsReady floor self.old }
         ensures sound { IsSound self.new }
@@ -191,6 +221,7 @@ impl Shared {
 
     /// The step `cut`, at a sequent with nothing left to work on.
     #[inline]
+    #[tactic(auto, using(crate::proofs::Sharing::ready_facts))]
     fn cut(
         &mut self,
         alloc: Global,
@@ -214,6 +245,7 @@ impl Shared {
 
     /// Plays a step at a sequent with nothing left to work on.
     #[inline]
+    #[tactic(auto, using(crate::proofs::Sharing::ready_facts))]
     fn play_on_nothing(
         &mut self,
         alloc: Global,
@@ -235,6 +267,7 @@ impl Shared {
 
     /// The step `some`, at a sequent with the formula at a place under focus.
     #[inline]
+    #[tactic(auto, using(crate::proofs::Sharing::ready_facts))]
     fn instantiate(
         &mut self,
         level: u64,
@@ -243,20 +276,18 @@ impl Shared {
         t: TermBuf,
     ) -> Result<(), StepRefusal>
         requires ready { IsReady floor self.old }
-        requires task { IsBelow (length self.old.cells) (Task.Focus place) }
-        requires served { IsServedTask (length self.old.terms.items) self.old.cells (Task.Focus place) }
+        requires place { IsPlace self.old place }
+        requires first { 0 < place }
         ensures sound { IsSound self.new }
         ensures played { IsPlayed (Step.Exists t) result
-            ((level, sequent_of self.old.terms.items self.old.stored.items self.old.cells (Task.Focus place))
-            ∷ pending_of self.old) (pending_of self.new) }
+            ((level, down (stored_of self.old) (first_of (worked_at self.old place))) ∷ pending_of self.old)
+            (pending_of self.new) }
     {
         match self.first_at(place).formula.shape() {
             Node::Exists => {
                 fits(is_in_scope(&t, level))?;
                 let Cell { formula, .. } = self.take_up(floor, place)?;
-                let name = Given::Term(self.keep_term(t)?);
-                let body = formula.open_at(name)?;
-                match self.open_focus(level, floor, body) {
+                match self.open_body(level, floor, formula, t) {
                     Ok(()) => Ok(()),
                     Err(_) => Err(StepRefusal::OutOfMemory),
                 }
@@ -267,14 +298,15 @@ impl Shared {
 
     /// The step `init`, at a sequent with the formula at a place under focus.
     #[inline]
+    #[tactic(auto, using(crate::proofs::Sharing::ready_facts))]
     fn initial(&mut self, level: u64, floor: usize, place: usize, k: u64) -> Result<(), StepRefusal>
         requires ready { IsReady floor self.old }
-        requires task { IsBelow (length self.old.cells) (Task.Focus place) }
-        requires served { IsServedTask (length self.old.terms.items) self.old.cells (Task.Focus place) }
+        requires place { IsPlace self.old place }
+        requires first { 0 < place }
         ensures sound { IsSound self.new }
         ensures played { IsPlayed (Step.Init k) result
-            ((level, sequent_of self.old.terms.items self.old.stored.items self.old.cells (Task.Focus place))
-            ∷ pending_of self.old) (pending_of self.new) }
+            ((level, down (stored_of self.old) (first_of (worked_at self.old place))) ∷ pending_of self.old)
+            (pending_of self.new) }
     {
         match stored_at(self.stored.as_slice(), k) {
             Some(other) => {
@@ -289,6 +321,7 @@ impl Shared {
 
     /// Plays a step at a sequent with the formula at a place under focus.
     #[inline]
+    #[tactic(auto, using(crate::proofs::Sharing::ready_facts))]
     fn play_on_focus(
         &mut self,
         level: u64,
@@ -297,12 +330,12 @@ impl Shared {
         step: Step,
     ) -> Result<(), StepRefusal>
         requires ready { IsReady floor self.old }
-        requires task { IsBelow (length self.old.cells) (Task.Focus place) }
-        requires served { IsServedTask (length self.old.terms.items) self.old.cells (Task.Focus place) }
+        requires place { IsPlace self.old place }
+        requires first { 0 < place }
         ensures sound { IsSound self.new }
         ensures played { IsPlayed step result
-            ((level, sequent_of self.old.terms.items self.old.stored.items self.old.cells (Task.Focus place))
-            ∷ pending_of self.old) (pending_of self.new) }
+            ((level, down (stored_of self.old) (first_of (worked_at self.old place))) ∷ pending_of self.old)
+            (pending_of self.new) }
     {
         match step {
             Step::Exists(t) => self.instantiate(level, floor, place, t),
@@ -313,6 +346,7 @@ impl Shared {
 
     /// Plays a step that brings nothing at a sequent with the formula at a place under focus.
     #[inline]
+    #[tactic(auto, using(crate::proofs::Sharing::ready_facts))]
     fn play_rule(
         &mut self,
         level: u64,
@@ -321,13 +355,13 @@ impl Shared {
         step: &Step,
     ) -> Result<(), StepRefusal>
         requires ready { IsReady floor self.old }
-        requires task { IsBelow (length self.old.cells) (Task.Focus place) }
-        requires served { IsServedTask (length self.old.terms.items) self.old.cells (Task.Focus place) }
+        requires place { IsPlace self.old place }
+        requires first { 0 < place }
         requires nothing { BringsNothing step.now }
         ensures sound { IsSound self.new }
         ensures played { IsPlayed step.now result
-            ((level, sequent_of self.old.terms.items self.old.stored.items self.old.cells (Task.Focus place))
-            ∷ pending_of self.old) (pending_of self.new) }
+            ((level, down (stored_of self.old) (first_of (worked_at self.old place))) ∷ pending_of self.old)
+            (pending_of self.new) }
     {
         match focus_effect(step, self.first_at(place).formula.shape()) {
             Some(effect) => {
