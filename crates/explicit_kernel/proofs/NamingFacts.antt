@@ -1,5 +1,5 @@
 -- What is told of a step at the sequents still to be derived.
-use Rattle.std.proofs.Common.{◌≡◌, ℕ, ◌+◌, List, [], ◌∷◌, ◌++◌, map, length, Option, Some, None, Result, Ok, Err, refl, sym, ap, subst, ◌∙◌}
+use Rattle.std.proofs.Common.{◌≡◌, ℕ, ◌+◌, List, [], ◌∷◌, ◌++◌, length, Option, Some, None, Result, Ok, Err, refl, sym, ap, subst, ◌∙◌}
 use Rattle.std.proofs.lemmas.List.{map-append}
 use Rattle.std.specs.Option.{IsSome}
 use Rattle.std.specs.Prelude.{Bool, true, false, if◌then◌else◌, get_or, slice_get}
@@ -29,12 +29,12 @@ use Rattle.lkf_rules.specs.declared.rules.table.FocusEffect.TheVariants as focus
 use Rattle.lkf_rules.specs.Sequent.{Sequent, up, down, Levelled}
 use Rattle.lkf_rules.specs.Premises.{worked, focused, decided, closed_with, premises_of}
 use Rattle.lkf_rules.specs.Table.{worked_by, focused_by}
-use Rattle.lkf_rules.specs.Play.{PlaysOne, Fits}
+use Rattle.lkf_rules.specs.Play.{PlaysOne}
 use Rattle.explicit_kernel.specs.Progress.{MayRunOutAt}
 use Rattle.polarised_formulas.proofs.Calculus.Play.{PlaysOne-empty, PlaysOne-premises, PlaysOne-stuck}
 use Rattle.lkf_rules.specs.Lkf.{lkf}
 use Rattle.explicit_kernel.specs.declared.shared.Cell.{Cell}
-use Rattle.explicit_kernel.specs.declared.shared.Task.TheVariants.{Work, Focus}
+use Rattle.explicit_kernel.specs.declared.shared.Task.TheVariants.{Work}
 use Rattle.explicit_kernel.specs.declared.shared.Shared.{Shared}
 use Rattle.explicit_kernel.specs.Shared.{Held, meant, first_of, chain, sequent_of, IsServed, AreServed, IsFirst, IsReady, Grows, HasTerms, pending_of, stored_of, worked_at}
 use Rattle.explicit_kernel.specs.Naming.{Replaces, IsPlayed}

@@ -1,5 +1,5 @@
 -- Steps that spell a derivation are accepted from their own text.
-use Rattle.std.proofs.Common.{◌≡◌, inl, inr, ℕ, suc, ◌+◌, ◌<◌, ◌≤◌, List, [], ◌∷◌, ◌++◌, length, length-append, Some, refl, sym, arith}
+use Rattle.std.proofs.Common.{◌≡◌, ℕ, suc, ◌+◌, ◌≤◌, List, [], ◌∷◌, ◌++◌, length, length-append, refl, sym, arith}
 use Rattle.std.specs.List.{All, AllByRecursion}
 use Rattle.std.proofs.lemmas.List.Elements.{All-head, All-tail}
 use Rattle.fpc_terms.specs.Name.{AreNames, AreDifferent}
@@ -19,7 +19,7 @@ use Rattle.explicit_form.specs.declared.word.Word.TheVariants as word
 use Rattle.explicit_form.specs.declared.word.Placed.TheVariants as placed
 use Rattle.explicit_form.specs.declared.word.Written.TheVariants as written
 use Rattle.explicit_form.specs.Sizes.{StepsNamedBelow, steps_size}
-use Rattle.explicit_form.specs.StepLimits.{FitSteps, most_bytes}
+use Rattle.explicit_form.specs.StepLimits.{FitSteps}
 use Rattle.explicit_form.specs.StepText.{word_text, bare_text, step_word, ArePlainSteps, certificate_text}
 use Rattle.explicit_form.proofs.Outcomes.{certificate_outcome}
 use Rattle.explicit_form.proofs.SizeFacts.{length-certificate}

@@ -1,15 +1,13 @@
 -- Sequents still to be derived that share their formulas: what is put on top or cut back leaves those behind as they were.
 use Rattle.std.proofs.Common.{◌≡◌, ℕ, suc, ◌≤◌, List, [], ◌∷◌, ◌++◌, length, map, take, drop, refl, sym, ap, subst, ◌∙◌, arith, Result, Ok, Err, OnOk, OnErr}
 use Rattle.std.specs.Prelude.{zero}
-use Rattle.std.specs.List.{AllByRecursion}
 use Rattle.std.proofs.lemmas.List.{take-append-le, take-take, length-take, length-append, append_assoc, take-append-drop}
 use Rattle.fpc_terms.specs.Term.{Term, Each, Always, Never}
-use Rattle.polarised_formulas.specs.Formula.{Formula}
 use Rattle.polarised_formulas.specs.Held.{AreUnbound}
 use Rattle.polarised_formulas.specs.Grows.{stands-grown}
 use Rattle.polarised_formulas.proofs.Elements.{AllByRecursion-weaker, AllByRecursion-append}
 use Rattle.polarised_formulas.proofs.HeldFacts.{pair_part, quantified_part}
-use Rattle.lkf_rules.specs.Sequent.{Levelled, up}
+use Rattle.lkf_rules.specs.Sequent.{up}
 use Rattle.explicit_kernel.specs.declared.shared.Cell.{Cell}
 use Rattle.explicit_kernel.specs.declared.shared.Task.{Task}
 use Rattle.explicit_kernel.specs.declared.shared.Task.TheVariants.{Work, Focus}

@@ -24,6 +24,6 @@ pub stands-before : {X : Type 0} (xs ys : List X) (n : ℕ) (x : X) → n < leng
 stands-before xs ys n x h e = (
   reverse (drop (n + 1) xs),
   ap reverse (sym (take-append-drop (n + 1) xs)) ∙ reverse-append (take (n + 1) xs) (drop (n + 1) xs)
-  ∙ ap (λ l. reverse (drop (n + 1) xs) ++ l) (ap reverse e ∙ reverse-append ys (x ∷ [])),
+      ∙ ap (λ l. reverse (drop (n + 1) xs) ++ l) (ap reverse e ∙ reverse-append ys (x ∷ [])),
   omega (arith, h, length-reverse ys, ap length e, length-append ys (x ∷ []), length-take (n + 1) xs),
 )

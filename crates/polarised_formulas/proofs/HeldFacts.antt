@@ -1,11 +1,10 @@
 -- What holds of closures by tables of terms: their shapes, and how many terms they need.
 use Rattle.std.proofs.Common.{◌≡◌, ◌≤◌, max, List, [], map, refl, arith}
 use Rattle.std.specs.Prelude.{Bool, true, false, Some}
-use Rattle.std.specs.Option.{IsSome}
 use Rattle.fpc_terms.specs.Term.{Term, Always}
 use Rattle.polarised_formulas.specs.declared.held.Given.{Given}
 use Rattle.polarised_formulas.specs.declared.held.Given.TheVariants as given_by
-use Rattle.polarised_formulas.specs.Formula.{Formula, truth, falsity, atom, conj, disj, implies, for_all, exists, parts_of, opened, open_at, IsProper}
+use Rattle.polarised_formulas.specs.Formula.{Formula, truth, falsity, atom, conj, disj, implies, for_all, exists, opened, open_at, IsProper}
 use Rattle.polarised_formulas.specs.Parts.{IsPair, IsQuantified, body_of}
 use Rattle.polarised_formulas.specs.Closure.{fill, marked, Closure, stands_for, root_closure, at_part, opened_by, dual_closure, IsReached, NoneBound}
 use Rattle.polarised_formulas.proofs.FillFacts.{unbound-get, stands-opened, fill-closed, closed-reached}
@@ -41,26 +40,6 @@ quantified-marked true os ps (disj p x y) h = absurd h
 quantified-marked false os ps (disj p x y) h = absurd h
 quantified-marked true os ps (implies x y) h = absurd h
 quantified-marked false os ps (implies x y) h = absurd h
-
-pub has_parts : (f : Formula) → IsPair f → IsSome (parts_of f)
-has_parts (truth p) h = absurd h
-has_parts (falsity p) h = absurd h
-has_parts (atom positive name ts) h = absurd h
-has_parts (conj p x y) h = refl
-has_parts (disj p x y) h = refl
-has_parts (implies x y) h = refl
-has_parts (for_all x) h = absurd h
-has_parts (exists x) h = absurd h
-
-pub has_body : (f : Formula) (t : Term) → IsQuantified f → IsSome (opened t f)
-has_body (truth p) t h = absurd h
-has_body (falsity p) t h = absurd h
-has_body (atom positive name ts) t h = absurd h
-has_body (conj p x y) t h = absurd h
-has_body (disj p x y) t h = absurd h
-has_body (implies x y) t h = absurd h
-has_body (for_all x) t h = refl
-has_body (exists x) t h = refl
 
 -- what a quantified formula is opened to
 pub opened_quantified : (t : Term) (f : Formula) → IsQuantified f → opened t f ≡ Some (open_at 0 t (body_of f))

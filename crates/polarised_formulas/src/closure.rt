@@ -143,6 +143,7 @@ impl<R: Copy> Closure<R> {
     }
 
     /// The first of the two parts. Constant time.
+    #[inline]
     pub fn left(&self) -> Result<Closure<R>, OutOfMemory>
         requires { IsPair self.now.part }
         ensures value { IfOk result (λ c. c ≡ at_part self.now (left_of self.now.part)) }
@@ -154,6 +155,7 @@ impl<R: Copy> Closure<R> {
     }
 
     /// The second of the two parts. Constant time.
+    #[inline]
     pub fn right(&self) -> Result<Closure<R>, OutOfMemory>
         requires { IsPair self.now.part }
         ensures value { IfOk result (λ c. c ≡ at_part self.now (right_of self.now.part)) }
@@ -166,6 +168,7 @@ impl<R: Copy> Closure<R> {
     }
 
     /// The body, with a reference for the index that the quantifier binds. Constant time and memory.
+    #[inline]
     pub fn open_at(&self, t: R) -> Result<Closure<R>, OutOfMemory>
         requires { IsQuantified self.now.part }
         ensures value { IfOk result (λ c. c ≡ opened_by t self.now (body_of self.now.part)) }
@@ -177,6 +180,7 @@ impl<R: Copy> Closure<R> {
     }
 
     /// The dual. Constant time.
+    #[inline]
     pub fn dual(&self) -> Result<Closure<R>, OutOfMemory>
         ensures value { IfOk result (λ c. c ≡ dual_closure self.now) }
         ensures stands { IfOk result (λ c. (ref : R → Term) → stands_for ref c ≡ dual_of (stands_for ref self.now)) }
@@ -186,6 +190,7 @@ impl<R: Copy> Closure<R> {
     }
 
     /// The same closure. Constant time.
+    #[inline]
     pub fn copy(&self) -> Result<Closure<R>, OutOfMemory>
         ensures { IfOk result (λ c. c ≡ self.now) }
     {

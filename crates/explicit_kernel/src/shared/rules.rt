@@ -406,9 +406,9 @@ impl Shared {
         ensures sound { IsSound self.new }
         ensures played { IsPlayed step result (pending_of self.old) (pending_of self.new) }
     {
-        match self.sequents.pop() {
-            None => Err(StepRefusal::DoesNotFit),
-            Some(sequent) => self.play_at(alloc, &sequent, step),
-        }
+        let Some(sequent) = self.sequents.pop() else {
+            return Err(StepRefusal::DoesNotFit);
+        };
+        self.play_at(alloc, &sequent, step)
     }
 }

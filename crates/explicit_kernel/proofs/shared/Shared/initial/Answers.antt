@@ -1,4 +1,4 @@
-use Rattle.std.proofs.Common.{◌≡◌, ◌∷◌, [], Some, None, Err, rules}
+use Rattle.std.proofs.Common.{◌≡◌, [], Some, Err, rules}
 use Rattle.lkf_rules.specs.declared.rules.outcome.StepRefusal.TheVariants.{DoesNotFit}
 use Rattle.lkf_rules.specs.Premises.{closed_with}
 use Rattle.lkf_rules.specs.Sequent.{down}
@@ -15,7 +15,7 @@ returns-in_err-fits-in-Some-clause-played c =
     let us = c.as_slice-in-Some.result.now in
     let unfit : c.from_residual.result ≡ Err DoesNotFit = search rules in
     let told = init-told x c.args.level c.args.k c.as_slice.result.now c.as_slice.ensures.value c.args.place a us h _ c.first_at.ensures c.as_slice-in-Some.ensures.value c.in-Some.ensures.some
-        (closed-unfit c.may_close.result (closed_with (meant us a.formula) (Some (meant us h))) c.may_close.ensures c.in_err-fits-in-Some.ensures.err) in
+    (closed-unfit c.may_close.result (closed_with (meant us a.formula) (Some (meant us h))) c.may_close.ensures c.in_err-fits-in-Some.ensures.err) in
     played-unfit (Init c.args.k) c.from_residual.result _ _ unfit (played-not (Init c.args.k) c.args.level (down (stored_of x) (first_of (worked_at x c.args.place))) (pending_of x) told)
 
 pub returns-in_ok-fits-in-Some-clause-played : goal.returns-in_ok-fits-in-Some-clause-played
@@ -25,7 +25,7 @@ returns-in_ok-fits-in-Some-clause-played c =
     let h = c.in-Some.other.now in
     let us = c.as_slice-in-Some.result.now in
     let told = init-told x c.args.level c.args.k c.as_slice.result.now c.as_slice.ensures.value c.args.place a us h _ c.first_at.ensures c.as_slice-in-Some.ensures.value c.in-Some.ensures.some
-        (closed-fits c.may_close.result (closed_with (meant us a.formula) (Some (meant us h))) c.may_close.ensures c.in_ok-fits-in-Some.ensures.ok) in
+    (closed-fits c.may_close.result (closed_with (meant us a.formula) (Some (meant us h))) c.may_close.ensures c.in_ok-fits-in-Some.ensures.ok) in
     played-fits (Init c.args.k) c.args.level (down (stored_of x) (first_of (worked_at x c.args.place))) (pending_of x) (Some []) (pending_of c.cut_back.new.self) told c.cut_back.ensures.pending
 
 pub returns-in-None-clause-played : goal.returns-in-None-clause-played

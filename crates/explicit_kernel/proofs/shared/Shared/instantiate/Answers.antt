@@ -1,4 +1,4 @@
-use Rattle.std.proofs.Common.{◌≡◌, ◌∷◌, [], Some, None, Err, rules, refl, sym, ◌∙◌}
+use Rattle.std.proofs.Common.{◌≡◌, ◌∷◌, [], Some, Err, rules, refl, sym, ◌∙◌}
 use Rattle.lkf_rules.specs.declared.rules.outcome.StepRefusal.TheVariants.{OutOfMemory}
 use Rattle.lkf_rules.specs.Sequent.{down}
 use Rattle.lkf_rules.proofs.StepFacts.{is_unbound}
@@ -29,7 +29,7 @@ returns-in_err-formula-in-Exists-clause-played c =
     let f = meant x.terms.items a.formula in
     let n = c.args.level in
     let told = focus-told x c.args.place a c.first_at.ensures (Exists c.args.t) n (Some ((n, down (stored_of x) (open_at 0 c.args.t (body_of f))) ∷ []))
-        (some-fits c.args.t n (stored_of x) f (sym (c.in-Exists.ensures.stands (given x.terms.items))) (sym c.is_in_scope.ensures ∙ c.in_ok-fits-in-Exists.ensures.ok)) in
+    (some-fits c.args.t n (stored_of x) f (sym (c.in-Exists.ensures.stands (given x.terms.items))) (sym c.is_in_scope.ensures ∙ c.in_ok-fits-in-Exists.ensures.ok)) in
     let short : c.from_residual-in_err-formula-in-Exists.result ≡ Err OutOfMemory = search rules in
     played-out (Exists c.args.t) _ _ _ short (played-short (Exists c.args.t) n (down (stored_of x) (first_of (worked_at x c.args.place))) (pending_of x) _ told refl)
 
@@ -52,5 +52,5 @@ returns-in-Err-clause-played c =
     let f = meant x.terms.items a.formula in
     let n = c.args.level in
     let told = focus-told x c.args.place a c.first_at.ensures (Exists c.args.t) n (Some ((n, down (stored_of x) (open_at 0 c.args.t (body_of f))) ∷ []))
-        (some-fits c.args.t n (stored_of x) f (sym (c.in-Exists.ensures.stands (given x.terms.items))) (sym c.is_in_scope.ensures ∙ c.in_ok-fits-in-Exists.ensures.ok)) in
+    (some-fits c.args.t n (stored_of x) f (sym (c.in-Exists.ensures.stands (given x.terms.items))) (sym c.is_in_scope.ensures ∙ c.in_ok-fits-in-Exists.ensures.ok)) in
     played-short (Exists c.args.t) n (down (stored_of x) (first_of (worked_at x c.args.place))) (pending_of x) _ told refl

@@ -1,5 +1,4 @@
-use Rattle.std.proofs.Common.{ap, sym, subst, length, ◌∙◌, ◌∷◌}
-use Rattle.explicit_kernel.specs.Shared.{IsServed}
+use Rattle.std.proofs.Common.{ap, ◌∙◌, ◌∷◌}
 use Rattle.explicit_kernel.proofs.Sharing.{chain-end}
 use Rattle.explicit_kernel.proofs.shared.Shared.open_focus.Goals as goal
 

@@ -14,7 +14,7 @@ returns-in_err-first-in-Some-clause-played c =
     let n = c.args.level in
     let short : c.from_residual.result ≡ Err OutOfMemory = search rules in
     let told = work-told x c.args.place a c.first_at.ensures c.args.step.now n (Some c.in-Some.effect)
-        (c.in-Some.ensures.effect n (stored_of x) (worked_at x a.next) f (c.shape.ensures.stands (given x.terms.items))) in
+    (c.in-Some.ensures.effect n (stored_of x) (worked_at x a.next) f (c.shape.ensures.stands (given x.terms.items))) in
     played-out c.args.step.now c.from_residual.result _ _ short
     (played-short c.args.step.now n (up (stored_of x) (worked_at x c.args.place)) (pending_of x) _ told (worked_some c.in-Some.effect n (stored_of x) f (worked_at x a.next)))
 
@@ -35,5 +35,5 @@ returns-in-Err-clause-played c =
     let f = meant x.terms.items a.formula in
     let n = c.args.level in
     let told = work-told x c.args.place a c.first_at.ensures c.args.step.now n (Some c.in-Some.effect)
-        (c.in-Some.ensures.effect n (stored_of x) (worked_at x a.next) f (c.shape.ensures.stands (given x.terms.items))) in
+    (c.in-Some.ensures.effect n (stored_of x) (worked_at x a.next) f (c.shape.ensures.stands (given x.terms.items))) in
     played-short c.args.step.now n (up (stored_of x) (worked_at x c.args.place)) (pending_of x) _ told (worked_some c.in-Some.effect n (stored_of x) f (worked_at x a.next))

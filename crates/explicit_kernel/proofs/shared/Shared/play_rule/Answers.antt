@@ -15,7 +15,7 @@ returns-in_err-formula-in-Some-clause-played c =
     let n = c.args.level in
     let short : c.from_residual.result ≡ Err OutOfMemory = search rules in
     let told = focus-told x c.args.place a c.first_at.ensures c.args.step.now n (focused_by (Some c.in-Some.effect) n (stored_of x) f)
-        (c.in-Some.ensures.effect n (stored_of x) f (c.shape.ensures.stands (given x.terms.items)) c.requires.nothing) in
+    (c.in-Some.ensures.effect n (stored_of x) f (c.shape.ensures.stands (given x.terms.items)) c.requires.nothing) in
     played-out c.args.step.now c.from_residual.result _ _ short
     (played-short c.args.step.now n (down (stored_of x) (first_of (worked_at x c.args.place))) (pending_of x) _ told (focused_some c.in-Some.effect n (stored_of x) f))
 
@@ -37,5 +37,5 @@ returns-in-Err-clause-played c =
     let f = meant x.terms.items a.formula in
     let n = c.args.level in
     let told = focus-told x c.args.place a c.first_at.ensures c.args.step.now n (focused_by (Some c.in-Some.effect) n (stored_of x) f)
-        (c.in-Some.ensures.effect n (stored_of x) f (c.shape.ensures.stands (given x.terms.items)) c.requires.nothing) in
+    (c.in-Some.ensures.effect n (stored_of x) f (c.shape.ensures.stands (given x.terms.items)) c.requires.nothing) in
     played-short c.args.step.now n (down (stored_of x) (first_of (worked_at x c.args.place))) (pending_of x) _ told (focused_some c.in-Some.effect n (stored_of x) f)

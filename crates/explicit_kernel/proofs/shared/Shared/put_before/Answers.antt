@@ -1,6 +1,5 @@
 use Rattle.explicit_kernel.proofs.Sharing.{cell-grows}
 use Rattle.std.proofs.Common.{refl}
-use Rattle.explicit_kernel.specs.declared.shared.Shared.{Shared}
 use Rattle.explicit_kernel.proofs.shared.Shared.put_before.Goals as goal
 
 pub returns-clause-grows : goal.returns-clause-grows

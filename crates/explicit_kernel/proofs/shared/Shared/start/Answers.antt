@@ -1,8 +1,6 @@
-use Rattle.std.proofs.Common.{◌≡◌, [], ap, ◌∙◌}
+use Rattle.std.proofs.Common.{[]}
 use Rattle.polarised_formulas.specs.Held.{given}
-use Rattle.polarised_formulas.specs.Closure.{stands_for}
 use Rattle.polarised_formulas.proofs.HeldFacts.{stands_root, may_be_held}
-use Rattle.explicit_kernel.specs.Shared.{meant}
 use Rattle.explicit_kernel.proofs.NamingFacts.{root-pending}
 use Rattle.explicit_kernel.proofs.shared.Shared.start.Goals as goal
 

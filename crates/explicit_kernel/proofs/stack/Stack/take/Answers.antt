@@ -1,4 +1,4 @@
-use Rattle.std.proofs.Common.{◌≡◌, ◌∷◌, [], ◌++◌, arith, subst, ap, length, reverse, sym, ◌∙◌}
+use Rattle.std.proofs.Common.{arith, subst, ap, length, reverse, sym, ◌∙◌}
 use Rattle.std.proofs.lemmas.List.{length-reverse}
 use Rattle.explicit_kernel.specs.Stack.{IsBefore}
 use Rattle.explicit_kernel.proofs.StackFacts.{stands-before}
