@@ -17,7 +17,6 @@ use Rattle.polarised_formulas.specs.Closure.{opened_by, root_closure}
 use Rattle.polarised_formulas.specs.Held.{given, AreUnbound}
 use Rattle.polarised_formulas.specs.declared.held.Given.TheVariants as given_by
 use Rattle.polarised_formulas.proofs.HeldFacts.{none_bound, stands_body, stands_root}
-use Rattle.polarised_formulas.proofs.Elements.{AllByRecursion-at}
 use Rattle.polarised_formulas.specs.declared.step.Step.{Step}
 use Rattle.polarised_formulas.specs.declared.step.Step.TheVariants.{Cut, Exists, Decide, Init}
 use Rattle.lkf_rules.specs.declared.rules.outcome.StepRefusal.{StepRefusal}
@@ -36,13 +35,9 @@ use Rattle.lkf_rules.specs.Lkf.{lkf}
 use Rattle.explicit_kernel.specs.declared.shared.Cell.{Cell}
 use Rattle.explicit_kernel.specs.declared.shared.Task.TheVariants.{Work}
 use Rattle.explicit_kernel.specs.declared.shared.Shared.{Shared}
-use Rattle.explicit_kernel.specs.Shared.{Held, meant, first_of, chain, sequent_of, IsServed, AreServed, IsFirst, IsReady, Grows, HasTerms, pending_of, stored_of, worked_at}
+use Rattle.explicit_kernel.specs.Shared.{Held, meant, first_of, chain, sequent_of, IsServed, IsFirst, IsReady, Grows, HasTerms, pending_of, stored_of, worked_at}
 use Rattle.explicit_kernel.specs.Naming.{Replaces, IsPlayed}
 use Rattle.explicit_kernel.proofs.Sharing.{chain-end, meant-grown, all_meant-grown, terms-pending, terms-ready}
-
--- memory may run out at `cut`
-pub cut-runs_out : (b : Formula) (n : ℕ) (c : Sequent) (q : List Levelled) → MayRunOutAt lkf (Cut b) ((n, c) ∷ q)
-cut-runs_out b n c q = λ e. let no : ⊥ = cc in no
 
 -- and where a step plays a list
 runs_out-plays : (step : Step) (q r : List Levelled) → PlaysOne q step r → MayRunOutAt lkf step q
@@ -191,9 +186,6 @@ module _ (x : Shared) (n k : ℕ) (l : List Held) (stored : l ≡ x.stored.items
   stored-get : slice_get (stored_of x) k ≡ option_map (meant x.terms.items) (slice_get l k)
   stored-get = rw stored (slice_get-map (meant x.terms.items) x.stored.items k)
 
-  pub stored-served : (h : Held) → AreServed (length x.terms.items) x.stored.items → slice_get l k ≡ Some h → IsServed (length x.terms.items) h
-  stored-served h served is = AllByRecursion-at (IsServed (length x.terms.items)) x.stored.items k h served (rw stored at is)
-
   pub decide-told : (h : Held) (o : Option (List Levelled)) → slice_get l k ≡ Some h → decided n (stored_of x) (Some (meant x.terms.items h)) ≡ o → premises_of (Decide k) n (up (stored_of x) []) ≡ o
   decide-told h o is told = rw (stored-get, is) told
 
@@ -234,15 +226,6 @@ some-premise y z floor n k t f body r grows last place ready served quantified o
 pub root-pending : (x y : Shared) (h : Held) (f : Formula) → x.stored.items ≡ [] → x.terms.items ≡ [] → x.cells ≡ [] → x.sequents ≡ [] → meant [] h ≡ f
     → pending_of y ≡ (0, up (stored_of x) (meant x.terms.items h ∷ worked_at x 0)) ∷ pending_of x → pending_of y ≡ (0, up [] (f ∷ [])) ∷ []
 root-pending x y h f a b c d stands told = rw (told, a, b, c, d, stands) refl
-
--- the step `some` at a formula
-pub some-unfit : (t : Term) (n : ℕ) (s : List Formula) (f : Formula) → (root_node f ≡ NodeExists → ⊥) → focused (Exists t) n s f ≡ None
-some-unfit t n s (exists a) h = absurd (h refl)
-some-unfit t n s _ h = refl
-
-pub some-unscoped : (t : Term) (n : ℕ) (s : List Formula) (f : Formula) → is_scoped n 0 t ≡ false → focused (Exists t) n s f ≡ None
-some-unscoped t n s (exists a) e = rw e refl
-some-unscoped t n s _ e = refl
 
 pub some-fits : (t : Term) (n : ℕ) (s : List Formula) (f : Formula) → root_node f ≡ NodeExists → is_scoped n 0 t ≡ true
     → focused (Exists t) n s f ≡ Some ((n, down s (open_at 0 t (body_of f))) ∷ [])

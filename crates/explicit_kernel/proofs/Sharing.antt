@@ -265,18 +265,6 @@ pub taken-pending : (x : Shared) (cs : List Cell) (floor n : ℕ) (c : Cell) →
 taken-pending x cs floor n c low ready before =
     cut-same x.terms.items floor (length x.stored.items) n x.stored.items x.cells cs x.sequents ready.below low (IsBefore-lowest x.cells cs n c before)
 
--- a cell is the first one also when what is above the rest is cut off
-pub cut-first : (c : Cell) (n : ℕ) (x y z : Shared) → IsFirst c n x y → IsPlace z c.next → chain z.cells c.next ≡ chain y.cells c.next → z.terms ≡ y.terms → IsFirst c n x z
-cut-first c n x y z first place same e = record {
-  list = first.list ∙ ap (λ l. c.formula ∷ l) (sym same);
-  formula = rw e first.formula;
-  rest = place;
-}
-
--- the list of a focus is one formula, at a place
-pub focus-place : (x : Shared) (n : ℕ) → IsBelow (length x.cells) (Focus n) → IsServedTask (length x.terms.items) x.cells (Focus n) → IsPlace x n
-focus-place x n below (h, is, served) = (below, subst (AreServed (length x.terms.items)) (sym is) (served, tt))
-
 pub focus-some : (x : Shared) (n : ℕ) → IsServedTask (length x.terms.items) x.cells (Focus n) → suc 0 ≤ n
 focus-some x zero (h, is, served) = let none : chain x.cells 0 ≡ [] = chain-end x.cells in let no : ⊥ = cc in absurd no
 focus-some x (suc n) served = omega arith
@@ -317,24 +305,6 @@ forget-pending o x s ts h a b = rw (a, b)
     (sym (sequents-same (take o.terms x.terms.items) x.stored.items (take o.stored x.stored.items) x.cells x.cells o.floor o.stored x.sequents h.below (λ i z. refl) (Alike-take o.stored x.stored.items))
     ∙ sequents-cut x.terms.items o.terms x.stored.items x.cells x.sequents h.terms h.served)
 
--- a sequent that is taken off sound ones
-pub taken-off : (o : Open) (os : List Open) (x y : Shared) → x.sequents ≡ o ∷ os → y.sequents ≡ os → y.stored ≡ x.stored → y.terms ≡ x.terms → y.cells ≡ x.cells → IsSound x → IsTaken o y
-taken-off o os x y e a b c d sound =
-    let below : AreBelow (length x.cells) (length x.stored.items) (o ∷ os) = subst (AreBelow (length x.cells) (length x.stored.items)) e sound.below in
-    let served : AreServedAll (length x.terms.items) x.stored.items x.cells (o ∷ os) = subst (AreServedAll (length x.terms.items) x.stored.items x.cells) e sound.served in
-    record {
-      stored = rw b below.0;
-      terms = rw c served.0;
-      floor = rw d below.1;
-      task = rw d below.2;
-      below = rw a below.3;
-      own_stored = rw b served.1;
-      own_task = rw d served.2;
-      served = rw (a, b, d) served.3;
-      down = rw d sound.down;
-      unbound = rw c sound.unbound;
-    }
-
 -- more terms leave all as it was
 pub terms-ready : (n : ℕ) (x y : Shared) → HasTerms x y → IsReady n x → IsReady n y
 terms-ready n x y h ready =
@@ -350,15 +320,6 @@ terms-ready n x y h ready =
 
 pub terms-pending : (x y : Shared) → HasTerms x y → AreServedAll (length x.terms.items) x.stored.items x.cells x.sequents → pending_of y ≡ pending_of x
 terms-pending x y h served = rw (h.stored, h.cells, h.sequents, h.terms) (sequents-grown x.terms.items h.more (length x.terms.items) x.stored.items x.cells x.sequents (omega arith) served)
-
-pub terms-place : (x y : Shared) (n : ℕ) → HasTerms x y → IsPlace x n → IsPlace y n
-terms-place x y n h place =
-    let more : length x.terms.items ≤ length y.terms.items = omega (arith, ap length h.terms, length-append x.terms.items h.more) in
-    rw h.cells (place.0, AreServed-more (length x.terms.items) (length y.terms.items) (chain x.cells n) more place.1)
-
-pub terms-sequent : (x y : Shared) (task : Task) → HasTerms x y → AreServed (length x.terms.items) x.stored.items → IsServedTask (length x.terms.items) x.cells task
-    → sequent_of y.terms.items y.stored.items y.cells task ≡ sequent_of x.terms.items x.stored.items x.cells task
-terms-sequent x y task h stored served = rw (h.stored, h.cells, h.terms) (sequent-grown x.terms.items h.more x.stored.items x.cells task stored served)
 
 -- where the sequents need no more than a floor, all is sound
 pub ready-sound : (n : ℕ) (x : Shared) → IsReady n x → IsSound x

@@ -1,14 +1,13 @@
 -- What holds of closures by tables of terms: their shapes, and how many terms they need.
-use Rattle.std.proofs.Common.{◌≡◌, ◌≤◌, max, List, [], map, refl, arith}
+use Rattle.std.proofs.Common.{◌≡◌, List, [], map, refl}
 use Rattle.std.specs.Prelude.{Bool, true, false, Some}
 use Rattle.fpc_terms.specs.Term.{Term, Always}
-use Rattle.polarised_formulas.specs.declared.held.Given.{Given}
 use Rattle.polarised_formulas.specs.declared.held.Given.TheVariants as given_by
 use Rattle.polarised_formulas.specs.Formula.{Formula, truth, falsity, atom, conj, disj, implies, for_all, exists, opened, open_at, IsProper}
 use Rattle.polarised_formulas.specs.Parts.{IsPair, IsQuantified, body_of}
-use Rattle.polarised_formulas.specs.Closure.{fill, marked, Closure, stands_for, root_closure, at_part, opened_by, dual_closure, IsReached, NoneBound}
+use Rattle.polarised_formulas.specs.Closure.{fill, marked, Closure, stands_for, root_closure, opened_by, IsReached, NoneBound}
 use Rattle.polarised_formulas.proofs.FillFacts.{unbound-get, stands-opened, fill-closed, closed-reached}
-use Rattle.polarised_formulas.specs.Held.{given, given_reach, closure_reach, AreUnbound}
+use Rattle.polarised_formulas.specs.Held.{given, AreUnbound}
 
 pub pair-marked : (b : Bool) (os ps : List Term) (f : Formula) → IsPair (marked b (fill os ps 0 f)) → IsPair f
 pair-marked b os ps (conj p x y) h = tt
@@ -78,19 +77,6 @@ module _ {R : Type 0} where
 -- and may be made a closure
 pub may_be_held : (f : Formula) → IsProper Always f → IsReached 0 0 0 f
 may_be_held f h = closed-reached Always 0 0 f h
-
--- how many terms of a table closures need
-pub reach_root : (f : Formula) → closure_reach (root_closure f []) ≡ 0
-reach_root f = refl
-
-pub reach_part : (c : Closure Given) (f : Formula) → closure_reach (at_part c f) ≡ closure_reach c
-reach_part c f = refl
-
-pub reach_dual : (c : Closure Given) → closure_reach (dual_closure c) ≡ closure_reach c
-reach_dual c = refl
-
-pub reach_opened : (r : Given) (c : Closure Given) (f : Formula) → closure_reach (opened_by r c f) ≤ max (given_reach r) (closure_reach c)
-reach_opened r c f = omega arith
 
 -- by a table without bound indexes no reference has one
 pub none_bound : (ts : List Term) → AreUnbound ts → NoneBound (given ts)
